@@ -1,0 +1,3 @@
+pub mod Noted
+pub mod Check
+pub mod Views
