@@ -1,0 +1,4 @@
+pub mod Owning
+pub mod Feeding
+pub mod Nexting
+pub mod Seeking

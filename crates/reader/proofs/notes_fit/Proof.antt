@@ -1,0 +1,56 @@
+use Rattle.reader.specs.State.{notesFit}
+use borrow.Author.Needs.{needs}
+use Rattle.reader.proofs.notes_fit.Statement.{statement}
+use Rattle.reader.proofs.notes_fit.Tie as tie
+use Rattle.reader.proofs.notes_fit.Reads as reads
+use Rattle.reader.proofs.notes_fit.Lts as lts
+
+enum-told : tie.Need-enum-told
+enum-told c = search needs
+
+enum-known-noted : tie.Need-enum-known-noted
+enum-known-noted c = search needs
+
+enum-known-noted-2 : tie.Need-enum-known-noted-2
+enum-known-noted-2 c = search needs
+
+enum-known-noted-3 : tie.Need-enum-known-noted-3
+enum-known-noted-3 c = search needs
+
+enum-known-noted-4 : tie.Need-enum-known-noted-4
+enum-known-noted-4 c = search needs
+
+returns : tie.Need-returns
+unfolding notesFit
+returns c = rw (c .enum-told .given .1)
+
+returns-2 : tie.Need-returns-2
+unfolding notesFit
+returns-2 c = rw (c .before .noted .given .1)
+
+returns-3 : tie.Need-returns-3
+unfolding notesFit
+returns-3 c = rw (c .before .noted2 .given .1)
+
+returns-4 : tie.Need-returns-4
+unfolding notesFit
+returns-4 c = rw (c .before .noted3 .given .1)
+
+returns-5 : tie.Need-returns-5
+unfolding notesFit
+returns-5 c = rw (c .before .noted4 .given .1)
+
+pub notes-fit-spec : {M : Type 1} → statement M
+notes-fit-spec =
+    tie.close
+    (tie.spec
+    enum-told
+    enum-known-noted
+    enum-known-noted-2
+    enum-known-noted-3
+    enum-known-noted-4
+    returns
+    returns-2
+    returns-3
+    returns-4
+    returns-5)

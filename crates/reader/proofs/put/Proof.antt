@@ -1,0 +1,36 @@
+use Rattle.reader.proofs.Feeding.{put-is}
+use borrow.Author.Needs.{needs}
+use Rattle.reader.proofs.put.Statement.{statement}
+use Rattle.reader.proofs.put.Tie as tie
+use Rattle.reader.proofs.put.Reads as reads
+use Rattle.reader.proofs.put.Lts as lts
+use Rattle.lines.proofs.copy_into.Reads as copy-into-reads
+
+sub-copy-into : tie.Need-sub-copy-into
+sub-copy-into c = search needs
+
+part-copy-into-start : tie.Need-part-copy-into-start
+part-copy-into-start c = search needs
+
+part-copy-into-end : tie.Need-part-copy-into-end
+part-copy-into-end c = search needs
+
+copy-into-requires : tie.Need-copy-into-requires
+copy-into-requires c κs = search needs
+
+same-length : tie.Need-same-length
+same-length c = search needs
+
+returns : tie.Need-returns
+returns c = put-is _ _ _ _ (c .before .before .before .before .before .before .pre) (c .before .before .copy-into .ensures)
+
+pub put-spec : {M : Type 1} → statement M
+put-spec =
+    tie.close
+    (tie.spec
+    sub-copy-into
+    part-copy-into-start
+    part-copy-into-end
+    copy-into-requires
+    same-length
+    returns)

@@ -1,0 +1,5 @@
+pub mod State
+pub mod Feed
+pub mod Next
+pub mod Seek
+pub mod Inside
