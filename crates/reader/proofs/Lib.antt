@@ -2,3 +2,4 @@ pub mod Owning
 pub mod Feeding
 pub mod Nexting
 pub mod Seeking
+pub mod Refusals

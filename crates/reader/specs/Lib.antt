@@ -2,4 +2,5 @@ pub mod State
 pub mod Feed
 pub mod Next
 pub mod Seek
+pub mod Numbers
 pub mod Inside

@@ -2,7 +2,6 @@
 -- Assumes nothing.
 use Prim.Native.Nat.{ℕ, _+_, _-_}
 use mathlib.Core.Bool.{Bool, true, false, _||_}
-use mathlib.Core.Option.{Option, none, some}
 use mathlib.Core.List.{List, [], _∷_}
 use lib.ListN.{length, take}
 use lib.Dec.{leb}
@@ -32,18 +31,6 @@ answerOf b (unequalLengths n m L i) = UnequalLengths n m (line L) (rangeOf i)
 answerOf b (unexpectedEnd L i) = UnexpectedEnd (line L) (rangeOf i)
 answerOf b ended = End
 
--- document 01's number of an answer; a record, a request for input and End have none
-abbrev pub numberOf : Answer → Option ℕ
-numberOf (Record r b) = none
-numberOf More = none
-numberOf (WindowLimit L b) = some 7
-numberOf (InvalidStart x L) = some 8
-numberOf (InvalidSeparator x L i) = some 9
-numberOf (UnequalLengths n m L i) = some 10
-numberOf (UnexpectedEnd L i) = some 11
-numberOf End = none
-numberOf (Refused k) = some k
-
 abbrev pub deciding : Answer → Bool → Bool → Decided
 deciding a waiting closed = record { answer = a; waiting = waiting; closed = closed }
 
@@ -53,14 +40,18 @@ settledBy b (onward r) = deciding (answerOf b (found r)) false false
 settledBy b (unended r) = deciding (answerOf b (found r)) false true
 settledBy b (closing a) = deciding (answerOf b a) false true
 
--- by the test: the record is complete, or W bytes are held from its start, or the end is noted. Otherwise more input is wanted
+-- the record is complete, or W bytes are held from its start, or the end is noted
+abbrev pub settles : List ℕ → ℕ → ℕ → Bool → List ℕ → Bool
+settles H W p end es = leb 4 (length es) || (leb W (length (rest H p)) || end)
+
+-- by that test: otherwise more input is wanted
 abbrev pub decidedBy : List ℕ → ℕ → ℕ → ℕ → Byte → List ℕ → Bool → Decided
 decidedBy H W p L b es true = settledBy b (stepWith H W p L es)
 decidedBy H W p L b es false = deciding More true false
 
 -- the answer for the held bytes H, of which the record at p has the noted line ends
 unfoldable pub decidedOf : List ℕ → ℕ → ℕ → ℕ → Byte → Bool → Noted → Decided
-decidedOf H W p L b end e = decidedBy H W p L b (listed e) (leb 4 (length (listed e)) || (leb W (length (rest H p)) || end))
+decidedOf H W p L b end e = decidedBy H W p L b (listed e) (settles H W p end (listed e))
 
 -- from a complete record that was answered to the one behind it
 abbrev pub onwardBy : Reader → Noted → Reader

@@ -1,15 +1,14 @@
+-- One law for each count of line ends (Nexting).
+-- Assumes nothing.
 use native.Mathlib.Omega.{arith}
-use mathlib.Core.Path.{sym, _∙_, ap}
+use mathlib.Core.Path.{_∙_, ap}
 use lib.ListN.{length}
+use borrow.Author.Needs.{needs}
+use Rattle.record.specs.Noted.{listed}
 use Rattle.reader.proofs.Owning.{notes-at}
 use Rattle.reader.proofs.Nexting.{blank-zero, blank-one, blank-two}
-use Rattle.record.specs.Noted.{listed}
-use borrow.Author.Needs.{needs}
 use Rattle.reader.proofs.blank.Statement.{statement}
 use Rattle.reader.proofs.blank.Tie as tie
-use Rattle.reader.proofs.blank.Reads as reads
-use Rattle.reader.proofs.blank.Lts as lts
-use Rattle.reader.proofs.is_blank.Reads as is-blank-reads
 
 enum-told : tie.Need-enum-told
 enum-told c = search needs

@@ -1,18 +1,14 @@
+-- The tests of the code, in their order, are the reading's rules (Nexting).
+-- Assumes nothing.
 use lib.ListN.{length}
-use Rattle.record.specs.Noted.{listed}
-use Rattle.reader.proofs.Nexting.{notes-start}
 use native.Mathlib.Omega.{arith}
 use mathlib.Core.Path.{_∙_}
-use Rattle.reader.proofs.Nexting.{decided-limit, decided-more, decided-tail, decided-judged}
 use borrow.Author.Needs.{needs}
+use Rattle.record.specs.Noted.{listed}
+use Rattle.reader.proofs.Nexting.{notes-start}
+use Rattle.reader.proofs.Nexting.{decided-limit, decided-more, decided-tail, decided-judged}
 use Rattle.reader.proofs.decide.Statement.{statement}
 use Rattle.reader.proofs.decide.Tie as tie
-use Rattle.reader.proofs.decide.Reads as reads
-use Rattle.reader.proofs.decide.Lts as lts
-use Rattle.reader.proofs.count.Reads as count-reads
-use Rattle.reader.proofs.judged.Reads as judged-reads
-use Rattle.reader.proofs.numbers.Reads as numbers-reads
-use Rattle.reader.proofs.tail.Reads as tail-reads
 
 count-requires : tie.Need-count-requires
 count-requires c κs = search needs

@@ -1,12 +1,11 @@
+-- The first line end, where there is one, ends the first line.
+-- Assumes nothing.
 use native.Mathlib.Omega.{arith}
 use lib.ListN.{length}
-use Rattle.reader.proofs.Owning.{notes-at}
 use borrow.Author.Needs.{needs}
+use Rattle.reader.proofs.Owning.{notes-at}
 use Rattle.reader.proofs.end_id.Statement.{statement}
 use Rattle.reader.proofs.end_id.Tie as tie
-use Rattle.reader.proofs.end_id.Reads as reads
-use Rattle.reader.proofs.end_id.Lts as lts
-use Rattle.record.proofs.error_id.Reads as error-id-reads
 
 enum-told : tie.Need-enum-told
 enum-told c = search needs

@@ -1,10 +1,9 @@
-use Rattle.reader.proofs.Nexting.{blank-is}
+-- What is left after `trim_cr` has no bytes exactly if it is empty.
+-- Assumes nothing.
 use borrow.Author.Needs.{needs}
+use Rattle.reader.proofs.Nexting.{blank-is}
 use Rattle.reader.proofs.is_blank.Statement.{statement}
 use Rattle.reader.proofs.is_blank.Tie as tie
-use Rattle.reader.proofs.is_blank.Reads as reads
-use Rattle.reader.proofs.is_blank.Lts as lts
-use Rattle.lines.proofs.trim_cr.Reads as trim-cr-reads
 
 sub-trim-cr : tie.Need-sub-trim-cr
 sub-trim-cr c = search needs

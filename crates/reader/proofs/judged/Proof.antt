@@ -1,10 +1,9 @@
-use Rattle.reader.specs.Inside.{judgedOf}
+-- The code's check decides as the verdict does, arm by arm.
+-- Assumes nothing.
 use borrow.Author.Needs.{needs}
+use Rattle.reader.specs.Inside.{judgedOf}
 use Rattle.reader.proofs.judged.Statement.{statement}
 use Rattle.reader.proofs.judged.Tie as tie
-use Rattle.reader.proofs.judged.Reads as reads
-use Rattle.reader.proofs.judged.Lts as lts
-use Rattle.record.proofs.Record.validate.Reads as validate-reads
 
 validate-requires : tie.Need-validate-requires
 validate-requires c κs = search needs

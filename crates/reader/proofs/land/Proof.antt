@@ -1,12 +1,10 @@
+-- The two ways that a chunk lands (Feeding).
+-- Assumes nothing.
 use mathlib.Core.Path.{_∙_}
-use Rattle.reader.proofs.Feeding.{land-move, land-stay}
 use borrow.Author.Needs.{needs}
+use Rattle.reader.proofs.Feeding.{land-move, land-stay}
 use Rattle.reader.proofs.land.Statement.{statement}
 use Rattle.reader.proofs.land.Tie as tie
-use Rattle.reader.proofs.land.Reads as reads
-use Rattle.reader.proofs.land.Lts as lts
-use Rattle.lines.proofs.move_front.Reads as move-front-reads
-use Rattle.reader.proofs.put.Reads as put-reads
 
 sub-if1 : tie.Need-sub-if1
 sub-if1 c = search needs

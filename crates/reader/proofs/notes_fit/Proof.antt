@@ -1,9 +1,9 @@
-use Rattle.reader.specs.State.{notesFit}
+-- Each arm of the match is a clause of the definition.
+-- Assumes nothing.
 use borrow.Author.Needs.{needs}
+use Rattle.reader.specs.State.{notesFit}
 use Rattle.reader.proofs.notes_fit.Statement.{statement}
 use Rattle.reader.proofs.notes_fit.Tie as tie
-use Rattle.reader.proofs.notes_fit.Reads as reads
-use Rattle.reader.proofs.notes_fit.Lts as lts
 
 enum-told : tie.Need-enum-told
 enum-told c = search needs

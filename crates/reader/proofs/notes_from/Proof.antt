@@ -1,9 +1,8 @@
+-- Each arm of the match is a clause of the definition.
+-- Assumes nothing.
 use borrow.Author.Needs.{needs}
 use Rattle.reader.proofs.notes_from.Statement.{statement}
 use Rattle.reader.proofs.notes_from.Tie as tie
-use Rattle.reader.proofs.notes_from.Reads as reads
-use Rattle.reader.proofs.notes_from.Lts as lts
-use Rattle.record.proofs.less.Reads as less-reads
 
 enum-told : tie.Need-enum-told
 enum-told c = search needs

@@ -1,11 +1,10 @@
+-- The places after line ends that lie within the held bytes fit.
+-- Assumes nothing.
 use native.Mathlib.Omega.{arith}
-use Rattle.reader.proofs.Owning.{notes-at}
 use borrow.Author.Needs.{needs}
+use Rattle.reader.proofs.Owning.{notes-at}
 use Rattle.reader.proofs.numbers.Statement.{statement}
 use Rattle.reader.proofs.numbers.Tie as tie
-use Rattle.reader.proofs.numbers.Reads as reads
-use Rattle.reader.proofs.numbers.Lts as lts
-use Rattle.reader.proofs.nothing.Reads as nothing-reads
 
 enum-known-noted : tie.Need-enum-known-noted
 enum-known-noted c = search needs

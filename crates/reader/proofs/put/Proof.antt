@@ -1,10 +1,9 @@
-use Rattle.reader.proofs.Feeding.{put-is}
+-- The part that was lent came back with the bytes copied into it (Feeding).
+-- Assumes nothing.
 use borrow.Author.Needs.{needs}
+use Rattle.reader.proofs.Feeding.{put-is}
 use Rattle.reader.proofs.put.Statement.{statement}
 use Rattle.reader.proofs.put.Tie as tie
-use Rattle.reader.proofs.put.Reads as reads
-use Rattle.reader.proofs.put.Lts as lts
-use Rattle.lines.proofs.copy_into.Reads as copy-into-reads
 
 sub-copy-into : tie.Need-sub-copy-into
 sub-copy-into c = search needs

@@ -1,14 +1,11 @@
+-- Blank, or cut short: one law for each (Nexting).
+-- Assumes nothing.
 use native.Mathlib.Omega.{arith}
 use mathlib.Core.Path.{sym, _∙_}
-use Rattle.reader.proofs.Nexting.{tail-blank, tail-cut}
 use borrow.Author.Needs.{needs}
+use Rattle.reader.proofs.Nexting.{tail-blank, tail-cut}
 use Rattle.reader.proofs.tail.Statement.{statement}
 use Rattle.reader.proofs.tail.Tie as tie
-use Rattle.reader.proofs.tail.Reads as reads
-use Rattle.reader.proofs.tail.Lts as lts
-use Rattle.reader.proofs.blank.Reads as blank-reads
-use Rattle.reader.proofs.count.Reads as count-reads
-use Rattle.reader.proofs.end_id.Reads as end-id-reads
 
 blank-requires : tie.Need-blank-requires
 blank-requires c κs = search needs

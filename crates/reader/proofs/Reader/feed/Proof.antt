@@ -1,14 +1,12 @@
+-- The answer is that of the lengths alone; where bytes are taken, they land as the definition says (Feeding).
+-- Assumes nothing.
 use native.Mathlib.Omega.{arith}
 use mathlib.Core.Path.{sym, _∙_, ap}
+use borrow.Author.Needs.{needs}
 use Rattle.reader.specs.declared.Fed.{Fed}
 use Rattle.reader.proofs.Feeding.{took-own, land-is, fed-took, fed-refused}
-use borrow.Author.Needs.{needs}
 use Rattle.reader.proofs.Reader.feed.Statement.{statement}
 use Rattle.reader.proofs.Reader.feed.Tie as tie
-use Rattle.reader.proofs.Reader.feed.Reads as reads
-use Rattle.reader.proofs.Reader.feed.Lts as lts
-use Rattle.reader.proofs.Reader.plan.Reads as plan-reads
-use Rattle.reader.proofs.land.Reads as land-reads
 
 plan-requires : tie.Need-plan-requires
 plan-requires c κs = search needs

@@ -1,12 +1,11 @@
+-- One law for each refusal and for the noted end (Seeking).
+-- Assumes nothing.
 use mathlib.Core.Path.{sym, _∙_}
 use borrow.Author.Tests.{not-true, not-false}
-use Rattle.reader.proofs.Seeking.{finish-foreign, finish-ended, finish-unasked, finish-notes}
 use borrow.Author.Needs.{needs}
+use Rattle.reader.proofs.Seeking.{finish-foreign, finish-ended, finish-unasked, finish-notes}
 use Rattle.reader.proofs.Reader.finish.Statement.{statement}
 use Rattle.reader.proofs.Reader.finish.Tie as tie
-use Rattle.reader.proofs.Reader.finish.Reads as reads
-use Rattle.reader.proofs.Reader.finish.Lts as lts
-use Rattle.reader.proofs.Reader.owns.Reads as owns-reads
 
 owns-requires : tie.Need-owns-requires
 owns-requires c κs = search needs

@@ -1,14 +1,13 @@
+-- Before, behind or among the held bytes: one law for each (Seeking).
+-- Assumes nothing.
 use native.Mathlib.Omega.{arith}
 use mathlib.Core.Path.{ap, _∙_}
+use borrow.Author.Needs.{needs}
 use Rattle.reader.specs.Seek.{movedBy}
 use Rattle.reader.specs.Inside.{positionAt}
 use Rattle.reader.proofs.Seeking.{held-before, held-behind, held-inside}
-use borrow.Author.Needs.{needs}
 use Rattle.reader.proofs.Reader.moved.Statement.{statement}
 use Rattle.reader.proofs.Reader.moved.Tie as tie
-use Rattle.reader.proofs.Reader.moved.Reads as reads
-use Rattle.reader.proofs.Reader.moved.Lts as lts
-use Rattle.reader.proofs.Reader.outside.Reads as outside-reads
 
 sub-base : tie.Need-sub-base
 sub-base c = search needs

@@ -1,15 +1,12 @@
+-- Foreign, closed, or on to the record that is sought (Nexting).
+-- Assumes nothing.
 use mathlib.Core.Path.{sym, _∙_}
 use borrow.Author.Tests.{not-true, not-false}
+use borrow.Author.Needs.{needs}
 use Rattle.reader.proofs.Owning.{own-facts, own-self}
 use Rattle.reader.proofs.Nexting.{next-foreign, next-closed, next-open, onward-seeks}
-use borrow.Author.Needs.{needs}
 use Rattle.reader.proofs.Reader.next.Statement.{statement}
 use Rattle.reader.proofs.Reader.next.Tie as tie
-use Rattle.reader.proofs.Reader.next.Reads as reads
-use Rattle.reader.proofs.Reader.next.Lts as lts
-use Rattle.reader.proofs.Reader.onward.Reads as onward-reads
-use Rattle.reader.proofs.Reader.owns.Reads as owns-reads
-use Rattle.reader.proofs.Reader.seeking.Reads as seeking-reads
 
 owns-requires : tie.Need-owns-requires
 owns-requires c κs = search needs

@@ -1,10 +1,10 @@
+-- The sums fit, since the notes of an own state lie within the window.
+-- Assumes nothing.
 use native.Mathlib.Omega.{arith}
-use Rattle.reader.proofs.Owning.{notes-at}
 use borrow.Author.Needs.{needs}
+use Rattle.reader.proofs.Owning.{notes-at}
 use Rattle.reader.proofs.Reader.onward.Statement.{statement}
 use Rattle.reader.proofs.Reader.onward.Tie as tie
-use Rattle.reader.proofs.Reader.onward.Reads as reads
-use Rattle.reader.proofs.Reader.onward.Lts as lts
 
 enum-known-noted : tie.Need-enum-known-noted
 enum-known-noted c = search needs

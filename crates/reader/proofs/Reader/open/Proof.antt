@@ -1,9 +1,8 @@
+-- One law for each of the three answers (Seeking).
+-- Assumes nothing.
 use Rattle.reader.proofs.Seeking.{open-small, open-large, open-fresh}
-use borrow.Author.Needs.{needs}
 use Rattle.reader.proofs.Reader.open.Statement.{statement}
 use Rattle.reader.proofs.Reader.open.Tie as tie
-use Rattle.reader.proofs.Reader.open.Reads as reads
-use Rattle.reader.proofs.Reader.open.Lts as lts
 
 returns : tie.Need-returns
 returns c = open-small _ (c .if1 .taken)

@@ -1,10 +1,9 @@
-use Rattle.reader.proofs.Owning.{own-back, own-far, own-near}
+-- The early answers and the last test are the definition, case by case (Owning).
+-- Assumes nothing.
 use borrow.Author.Needs.{needs}
+use Rattle.reader.proofs.Owning.{own-back, own-far, own-near}
 use Rattle.reader.proofs.Reader.owns.Statement.{statement}
 use Rattle.reader.proofs.Reader.owns.Tie as tie
-use Rattle.reader.proofs.Reader.owns.Reads as reads
-use Rattle.reader.proofs.Reader.owns.Lts as lts
-use Rattle.reader.proofs.notes_fit.Reads as notes-fit-reads
 
 returns : tie.Need-returns
 returns c = own-back _ _ (c .if1 .taken)

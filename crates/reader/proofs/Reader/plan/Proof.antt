@@ -1,14 +1,12 @@
+-- One law for each refusal, in their order (Feeding).
+-- Assumes nothing.
 use mathlib.Core.Path.{sym, _∙_}
 use borrow.Author.Tests.{not-true, not-false}
+use borrow.Author.Needs.{needs}
 use Rattle.reader.proofs.Owning.{own-facts, own-self}
 use Rattle.reader.proofs.Feeding.{feed-foreign, feed-ended, feed-unasked, feed-taking}
-use borrow.Author.Needs.{needs}
 use Rattle.reader.proofs.Reader.plan.Statement.{statement}
 use Rattle.reader.proofs.Reader.plan.Tie as tie
-use Rattle.reader.proofs.Reader.plan.Reads as reads
-use Rattle.reader.proofs.Reader.plan.Lts as lts
-use Rattle.reader.proofs.Reader.owns.Reads as owns-reads
-use Rattle.reader.proofs.Reader.taking.Reads as taking-reads
 
 owns-requires : tie.Need-owns-requires
 owns-requires c κs = search needs

@@ -1,14 +1,12 @@
+-- One law for each refusal and for the move (Seeking).
+-- Assumes nothing.
 use mathlib.Core.Path.{sym, _∙_}
 use borrow.Author.Tests.{not-true, not-false}
+use borrow.Author.Needs.{needs}
 use Rattle.reader.proofs.Owning.{own-facts, own-self}
 use Rattle.reader.proofs.Seeking.{seek-foreign, seek-far-line, seek-far-byte, seek-moves}
-use borrow.Author.Needs.{needs}
 use Rattle.reader.proofs.Reader.seek.Statement.{statement}
 use Rattle.reader.proofs.Reader.seek.Tie as tie
-use Rattle.reader.proofs.Reader.seek.Reads as reads
-use Rattle.reader.proofs.Reader.seek.Lts as lts
-use Rattle.reader.proofs.Reader.moved.Reads as moved-reads
-use Rattle.reader.proofs.Reader.owns.Reads as owns-reads
 
 owns-requires : tie.Need-owns-requires
 owns-requires c κs = search needs

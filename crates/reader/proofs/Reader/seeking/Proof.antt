@@ -1,17 +1,13 @@
-use mathlib.Core.Path.{sym, _∙_, ap}
+-- The notes after the search fit, so that the answer can be decided; the state is built once.
+-- Assumes nothing.
 use lib.ListN.{take, length}
-use lib.Seq.{length-take-le}
-use Rattle.reader.specs.Next.{seekingOf}
-use Rattle.reader.proofs.Nexting.{held-notes}
 use native.Mathlib.Omega.{arith}
 use lib.ListN.{length-take}
 use borrow.Author.Needs.{needs}
+use Rattle.reader.specs.Next.{seekingOf}
+use Rattle.reader.proofs.Nexting.{held-notes}
 use Rattle.reader.proofs.Reader.seeking.Statement.{statement}
 use Rattle.reader.proofs.Reader.seeking.Tie as tie
-use Rattle.reader.proofs.Reader.seeking.Reads as reads
-use Rattle.reader.proofs.Reader.seeking.Lts as lts
-use Rattle.reader.proofs.decide.Reads as decide-reads
-use Rattle.record.proofs.search.Reads as search-reads
 
 slice-aggregate-held : tie.Need-slice-aggregate-held
 slice-aggregate-held c = simp length-take (omega arith)

@@ -1,13 +1,10 @@
+-- The room is counted by differences, so that no sum wraps; one law for each answer (Feeding).
+-- Assumes nothing.
 use native.Mathlib.Omega.{arith}
-use Rattle.reader.proofs.Feeding.{taking-far, taking-move, taking-stay}
 use borrow.Author.Needs.{needs}
+use Rattle.reader.proofs.Feeding.{taking-far, taking-move, taking-stay}
 use Rattle.reader.proofs.Reader.taking.Statement.{statement}
 use Rattle.reader.proofs.Reader.taking.Tie as tie
-use Rattle.reader.proofs.Reader.taking.Reads as reads
-use Rattle.reader.proofs.Reader.taking.Lts as lts
-use Rattle.lines.proofs.least.Reads as least-reads
-use Rattle.reader.proofs.Reader.to_front.Reads as to-front-reads
-use Rattle.reader.proofs.Reader.with_fill.Reads as with-fill-reads
 
 sub-held : tie.Need-sub-held
 sub-held c = search needs

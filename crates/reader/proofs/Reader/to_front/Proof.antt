@@ -1,10 +1,8 @@
+-- The numbers that change are differences.
+-- Assumes nothing.
 use borrow.Author.Needs.{needs}
 use Rattle.reader.proofs.Reader.to_front.Statement.{statement}
 use Rattle.reader.proofs.Reader.to_front.Tie as tie
-use Rattle.reader.proofs.Reader.to_front.Reads as reads
-use Rattle.reader.proofs.Reader.to_front.Lts as lts
-use Rattle.reader.proofs.notes_from.Reads as notes-from-reads
-use Rattle.record.proofs.less.Reads as less-reads
 
 notes-from-requires : tie.Need-notes-from-requires
 notes-from-requires c κs = search needs
