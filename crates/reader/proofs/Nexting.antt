@@ -33,7 +33,7 @@ use Rattle.reader.specs.Inside.{numbersOf, nothingOf, tailBy, tailOf, ju
 -- ---- notes that fit
 
 -- notes that fit from a later place on fit from an earlier one
-notes-from : (a b fill m : ℕ) (es : List ℕ) → a ≤ b → Notes b fill m es → Notes a fill m es
+pub notes-from : (a b fill m : ℕ) (es : List ℕ) → a ≤ b → Notes b fill m es → Notes a fill m es
 notes-from a b fill m [] h n = (omega arith, n .1)
 notes-from a b fill m (e ∷ es) h n = (omega arith, n .1, n .2)
 
@@ -42,8 +42,13 @@ pub notes-start : (a fill m : ℕ) (es : List ℕ) → Notes a fill m es → a �
 notes-start a fill m [] n = omega arith
 notes-start a fill m (e ∷ es) n = omega (arith, n .1)
 
+-- and the mark lies between
+pub notes-mark : (a fill m : ℕ) (es : List ℕ) → Notes a fill m es → (a ≤ m) × (m ≤ fill)
+notes-mark a fill m [] n = n
+notes-mark a fill m (e ∷ es) n = let k = notes-mark (suc e) fill m es (n .2) in (omega (arith, n .0, k .0), k .1)
+
 -- line ends that are found fit
-ends-notes : (o fill : ℕ) (xs : List ℕ) → o + length xs ≤ fill → Notes o fill fill (lineEnds o xs)
+pub ends-notes : (o fill : ℕ) (xs : List ℕ) → o + length xs ≤ fill → Notes o fill fill (lineEnds o xs)
 unfolding lineEnds
 ends-notes o fill [] h = (omega arith, le-refl fill)
 ends-notes o fill (b ∷ bs) h = go (eqb b LF) (ends-notes (suc o) fill bs (omega arith))
@@ -53,18 +58,18 @@ ends-notes o fill (b ∷ bs) h = go (eqb b LF) (ends-notes (suc o) fill bs (omeg
     go false n = notes-from o (suc o) fill fill (lineEnds (suc o) bs) (omega arith) n
 
 -- notes up to the mark and notes from the mark on fit together
-notes-join : (a fill m : ℕ) (es fs : List ℕ) → Notes a fill m es → Notes m fill fill fs → Notes a fill fill (es ++ fs)
+pub notes-join : (a fill m : ℕ) (es fs : List ℕ) → Notes a fill m es → Notes m fill fill fs → Notes a fill fill (es ++ fs)
 notes-join a fill m [] fs n k = notes-from a m fill fill fs (n .0) k
 notes-join a fill m (e ∷ es) fs n k = (n .0, n .1, notes-join (suc e) fill m es fs (n .2) k)
 
 -- the first of them fit
-notes-take : (a fill i : ℕ) (es : List ℕ) → a ≤ fill → Notes a fill fill es → Notes a fill fill (take i es)
+pub notes-take : (a fill i : ℕ) (es : List ℕ) → a ≤ fill → Notes a fill fill es → Notes a fill fill (take i es)
 notes-take a fill Prim.Native.Nat.zero es h n = (h, le-refl fill)
 notes-take a fill (suc i) [] h n = n
 notes-take a fill (suc i) (e ∷ es) h n = (n .0, n .1, notes-take (suc e) fill i es (omega (arith, n .1)) (n .2))
 
 -- notes up to a mark fit all the more up to the end
-notes-all : (a fill m : ℕ) (es : List ℕ) → Notes a fill m es → Notes a fill fill es
+pub notes-all : (a fill m : ℕ) (es : List ℕ) → Notes a fill m es → Notes a fill fill es
 notes-all a fill m [] n = (omega arith, le-refl fill)
 notes-all a fill m (e ∷ es) n = (n .0, n .1, notes-all (suc e) fill m es (n .2))
 

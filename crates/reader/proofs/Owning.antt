@@ -6,7 +6,7 @@ use mathlib.Core.List.{List, [], _∷_}
 use Prim.Native.Nat.{ℕ, suc, _+_, _-_, _<_, _≤_}
 use native.Mathlib.Omega.{arith}
 use lib.Dec.{leb, ltb, eqb}
-use borrow.Author.Tests.{le-leb, lt-leb, leb-true, leb-false, ltb-true, eqb-true}
+use borrow.Author.Tests.{le-leb, lt-leb, leb-true, leb-false, lt-ltb, ltb-true, eq-eqb, eqb-true}
 use Rattle.record.specs.declared.Noted.{Noted}
 use Rattle.record.specs.Noted.{listed}
 use Rattle.reader.specs.declared.Reader.{Reader}
@@ -80,6 +80,25 @@ own-facts s n e =
       near = leb-true _ _ (b .1);
       few = leb-true _ _ (a .1);
     }
+
+fits-notes : (from fill mark : ℕ) (es : List ℕ) → Notes from fill mark es → notesFit from fill mark es ≡ true
+unfolding notesFit
+fits-notes from fill mark [] n = rw (le-leb from mark (n .0), le-leb mark fill (n .1))
+fits-notes from fill mark (e ∷ es) n = rw (le-leb from e (n .0), lt-ltb e fill (n .1)) (fits-notes (suc e) fill mark es (n .2))
+
+-- and the facts make a state own
+pub own-true : (s : Reader) (n : ℕ) → Own s n → own s n ≡ true
+unfolding own
+own-true s n o =
+    rw (
+      eq-eqb n (s .window) (o .opened),
+      le-leb (s .start) (s .fill) (o .forward),
+      le-leb (s .fill) (s .window) (o .inside),
+      fits-notes (s .start) (s .fill) (s .mark) (listed (s .noted)) (o .notes),
+      le-leb (s .start) (s .byte .0) (o .behind),
+      le-leb (s .byte .0 + (s .fill - s .start)) mostBytes (o .near),
+      le-leb (s .line .0) mostLines (o .few),
+    )
 
 -- notes that fit, of an enum that is known
 pub notes-at : (a fill m : ℕ) (e f : Noted) → e ≡ f → Notes a fill m (listed e) → Notes a fill m (listed f)

@@ -3,17 +3,17 @@
 use Prim.Native.Nat.{ℕ, zero, suc, _+_, _-_, _≤_, _<_, min}
 use native.Mathlib.Omega.{arith}
 use native.Mathlib.Decide.{decLe}
-use borrow.Author.Tests.{leb-true, leb-false}
+use borrow.Author.Tests.{leb-true, leb-false, le-leb}
 use mathlib.Core.Path.{_≡_, refl, sym, ap, _∙_}
 use mathlib.Core.Logic.{_⊎_, inl, inr}
 use mathlib.Core.Bool.{Bool, true, false, _||_}
 use mathlib.Core.List.{List, [], _∷_, _++_}
-use lib.ListN.{length, getD, take, drop, length-append, length-take, length-drop, List·getD-append}
-use lib.Seq.{slice, take-all, take-append-le, drop-append-le}
+use lib.ListN.{length, getD, take, drop, length-append, length-take, length-drop, take-append-drop, List·getD-append}
+use lib.Seq.{slice, take-all, take-append-le, drop-append-le, length-take-le}
 use lib.Dec.{leb}
 use Rattle.reading.specs.Bytes.{lineEnds, byteAt}
 use Rattle.reading.specs.Answer.{Five}
-use Rattle.reading.specs.Reading.{Step, judged, rest, seen, recordOf, validate, verdict, startsWell, hasPlus, lengthsAgree, complete, tailRule, stepAt, settled, errorId, headOf, seqOf, qualOf}
+use Rattle.reading.specs.Reading.{Step, judged, rest, seen, recordOf, validate, verdict, startsWell, hasPlus, lengthsAgree, complete, tailRule, stepWith, stepAt, settled, errorId, headOf, seqOf, qualOf}
 use Rattle.reading.proofs.Lines.{lineEnds-append, take-append, take-wider}
 use Rattle.reading.proofs.Steps.{Rule, four, full, tail, ruleAt, step-four, step-full, step-tail, seen-low, seen-high, seen-rises}
 
@@ -142,3 +142,15 @@ step-wider B W U p L w (inr k) = go (ruleAt B W p)
     go (four h) = step-four B U p L (rw q h) ∙ ap (complete B p L) q ∙ sym (step-four B W p L h)
     go (full h l) = absurd (omega arith)
     go (tail h l) = step-tail B U p L (rw q h) (omega arith) ∙ ap (tailRule B p L) q ∙ sym (step-tail B W p L h l)
+
+-- ---- a step needs no line end past the fourth
+
+pub step-notes : (B : List ℕ) (W p L : ℕ) (es : List ℕ) → stepWith B W p L (take 4 es) ≡ stepWith B W p L es
+step-notes B W p L es = go (decLe 4 (length es))
+  where
+    go : Dec (4 ≤ length es) → stepWith B W p L (take 4 es) ≡ stepWith B W p L es
+    go (yes h) =
+        let n : length (take 4 es) ≡ 4 = length-take-le 4 es h in
+        rw (le-leb 4 (length es) h, le-leb 4 (length (take 4 es)) (omega arith))
+        (sym (complete-front B p L (take 4 es) (drop 4 es) (omega arith)) ∙ ap (complete B p L) (take-append-drop 4 es))
+    go (no h) = rw (take-all 4 es (omega arith))

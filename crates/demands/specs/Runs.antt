@@ -1,0 +1,108 @@
+-- What a user's run is: a sequence of the public calls on one reader and one window, and the answers that it hears.
+-- Assumes nothing.
+use Prim.Native.Nat.{ℕ, _+_, _≤_}
+use mathlib.Core.Path.{_≡_}
+use mathlib.Core.Option.{Option, none, some}
+use mathlib.Core.List.{List, [], _∷_, _++_}
+use lib.ListN.{length, take, drop}
+use Rattle.reading.specs.Answer.{Id, absent, range, found, windowLimit, invalidStart, invalidSeparator, unequalLengths, unexpectedEnd, ended, Told, told}
+use Rattle.reading.specs.Answer as read
+use Rattle.reading.specs.Shift.{shiftFive, shiftId}
+use Rattle.record.specs.declared.Range.{Range}
+use Rattle.record.specs.declared.Range.the-variants.{Absent, Bytes}
+use Rattle.record.specs.Check.{fiveOf}
+use Rattle.reader.specs.declared.Reader.{Reader}
+use Rattle.reader.specs.declared.Opened.the-variants.{Fresh}
+use Rattle.reader.specs.declared.Taken.{Taken}
+use Rattle.reader.specs.declared.Taken.the-variants as taken
+use Rattle.reader.specs.declared.Answer.{Answer}
+use Rattle.reader.specs.declared.Answer.the-variants.{Record, More, WindowLimit, InvalidStart, InvalidSeparator, UnequalLengths, UnexpectedEnd, End, Refused}
+use Rattle.reader.specs.State.{openOf, positionOf}
+use Rattle.reader.specs.Feed.{feedOf, fedWindow, finishOf}
+use Rattle.reader.specs.Next.{nextOf}
+use Rattle.reader.specs.Seek.{base}
+
+-- ---- what is heard
+
+abbrev pub idOf : Range → Id
+idOf Absent = absent
+idOf (Bytes a b) = range a b
+
+-- what next answered, in absolute offsets: k is the absolute offset of the window's first byte. A request and a refusal are no answers
+abbrev pub heardOf : ℕ → Answer → Option read.Answer
+heardOf k (Record r b) = some (found (shiftFive k (fiveOf r)))
+heardOf k More = none
+heardOf k (WindowLimit L b) = some (windowLimit (L .0) (b .0))
+heardOf k (InvalidStart x L) = some (invalidStart x (L .0))
+heardOf k (InvalidSeparator x L i) = some (invalidSeparator x (L .0) (shiftId k (idOf i)))
+heardOf k (UnequalLengths n m L i) = some (unequalLengths n m (L .0) (shiftId k (idOf i)))
+heardOf k (UnexpectedEnd L i) = some (unexpectedEnd (L .0) (shiftId k (idOf i)))
+heardOf k End = some ended
+heardOf k (Refused n) = none
+
+-- an answer, with the position that the reader then tells
+abbrev pub placed : Reader → read.Answer → Told
+placed s a = told (positionOf s .line .0) (positionOf s .byte .0) a
+
+abbrev pub addTo : List Told → Reader → Option read.Answer → List Told
+addTo ts s none = ts
+addTo ts s (some a) = ts ++ (placed s a ∷ [])
+
+-- ---- calls
+
+-- how many bytes a feed says that it took
+abbrev pub tookOf : Taken → ℕ
+tookOf (taken.Took n) = n
+tookOf (taken.Refused k) = 0
+
+-- one bench: its reader and window, how many bytes of the input were taken, and the answers heard so far
+pub record Bench : Type 0 where
+  pub reader : Reader
+  pub window : List ℕ
+  pub taken : ℕ
+  pub heard : List Told
+
+-- a chunk is offered: what was taken of it is counted
+abbrev pub fed : Bench → List ℕ → Bench
+fed b chunk =
+    record {
+      reader = feedOf (b .reader) (length (b .window)) (length chunk) .state;
+      window = fedWindow (b .reader) (b .window) chunk;
+      taken = b .taken + tookOf (feedOf (b .reader) (length (b .window)) (length chunk) .answer);
+      heard = b .heard;
+    }
+
+-- the end is announced
+abbrev pub finished : Bench → Bench
+finished b = record { reader = finishOf (b .reader) (length (b .window)) .state; window = b .window; taken = b .taken; heard = b .heard }
+
+-- next is asked: an answer is heard, with the position after it
+abbrev pub asked : Bench → Bench
+asked b =
+    let r = nextOf (b .reader) (b .window) in
+    record { reader = r .state; window = b .window; taken = b .taken; heard = addTo (b .heard) (r .state) (heardOf (base (r .state)) (r .answer)) }
+
+-- A call of a user who reads the input B: a chunk of the input's next bytes, of any size, is offered at any time, refused or not; the end is announced
+-- only when the input is all taken; next is asked at any time; the window is handed back as it was returned. There is no seek.
+pub data Call (B : List ℕ) : Bench → Bench → Type 0 where
+  feed : {b : Bench} (chunk : List ℕ) → chunk ≡ take (length chunk) (drop (b .taken) B) → Call B b (fed b chunk)
+  finish : {b : Bench} → length B ≤ b .taken → Call B b (finished b)
+  next : {b : Bench} → Call B b (asked b)
+
+-- calls one after the other, from one bench's state to another
+pub data Calls (B : List ℕ) (a : Bench) : Bench → Type 0 where
+  here : Calls B a a
+  then : {b c : Bench} → Calls B a b → Call B b c → Calls B a c
+
+-- a fresh bench: a reader that open gave for W, a window of W bytes, whatever they are, nothing taken and nothing heard
+pub record Opened (W : ℕ) (b : Bench) : Type 0 where
+  pub fresh : openOf W ≡ Fresh (b .reader)
+  pub wide : length (b .window) ≡ W
+  pub none : b .taken ≡ 0
+  pub silent : b .heard ≡ []
+
+-- A USER'S RUN over the input B with a window of W bytes, which has come to the bench b
+pub record Run (B : List ℕ) (W : ℕ) (b : Bench) : Type 0 where
+  pub start : Bench
+  pub opened : Opened W start
+  pub calls : Calls B start b
