@@ -149,7 +149,7 @@ fn line(s: &[u8], from: usize, to: usize) -> &[u8]
 }
 
 // How many bytes of a head are its id.
-fn id_length(head: &[u8]) -> usize
+pub fn id_length(head: &[u8]) -> usize
     ensures { λ r. ⌜ r ≡ idLength (now (head .entry)) ⌝ }
 {
     let mut i = 0;

@@ -1,0 +1,69 @@
+-- `marked::driver::drive` is safe and ends. The measure is the number of turns that are left; the window keeps its length.
+-- Assumes nothing.
+use borrow.Author.Needs.{needs}
+use mathlib.Core.Path.{_≡_}
+use Prim.Native.Nat.{_-_}
+use lib.ListN.{length}
+use Rattle.marked.proofs.driver.drive.Statement.{statement}
+use Rattle.marked.proofs.driver.drive.Tie as tie
+
+abbrev Inv-loop : tie.InvT-loop
+Inv-loop name chunk input window₀ run₀ turns₀ t8 window run turns = length window ≡ length window₀
+
+abbrev μ-loop : tie.MeasureT-loop
+μ-loop name chunk input window₀ run₀ turns₀ t8 window run turns = 64 - turns
+
+loop-holds : tie.Need-loop-holds Inv-loop μ-loop
+loop-holds c = search needs
+
+same-length : tie.Need-same-length Inv-loop μ-loop
+same-length c = search needs
+
+returns : tie.Need-returns Inv-loop μ-loop
+returns c = search needs
+
+turn-requires : tie.Need-turn-requires Inv-loop μ-loop
+turn-requires c κs = search needs
+
+add-turns : tie.Need-add-turns Inv-loop μ-loop
+add-turns c = search needs
+
+loop-less : tie.Need-loop-less Inv-loop μ-loop
+loop-less c = search needs
+
+loop-again : tie.Need-loop-again Inv-loop μ-loop
+loop-again c = search needs
+
+text-requires : tie.Need-text-requires Inv-loop μ-loop
+text-requires c κs = search needs
+
+slice-aggregate-text : tie.Need-slice-aggregate-text Inv-loop μ-loop
+slice-aggregate-text c = search needs
+
+text-requires-2 : tie.Need-text-requires-2 Inv-loop μ-loop
+text-requires-2 c κs = search needs
+
+same-length-2 : tie.Need-same-length-2 Inv-loop μ-loop
+same-length-2 c = search needs
+
+returns-2 : tie.Need-returns-2 Inv-loop μ-loop
+returns-2 c = search needs
+
+pub drive-spec : {M : Type 1} → statement M
+drive-spec =
+    tie.close
+    (tie.spec
+    Inv-loop
+    μ-loop
+    loop-holds
+    same-length
+    returns
+    turn-requires
+    add-turns
+    loop-less
+    loop-again
+    text-requires
+    slice-aggregate-text
+    text-requires-2
+    same-length-2
+    returns-2)
