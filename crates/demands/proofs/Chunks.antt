@@ -1,6 +1,6 @@
 -- CHUNKS DON'T MATTER: the answers of a user's run are the first answers of the whole-file reading.
 -- Assumes nothing.
-use Prim.Native.Nat.{ℕ, zero, suc, _+_, _≤_, _<_}
+use Prim.Native.Nat.{ℕ, zero, suc, _+_, _-_, _≤_, _<_}
 use native.Mathlib.Omega.{arith}
 use native.Mathlib.Nat.{add-zero, zero-add}
 use mathlib.Core.Path.{_≡_, refl, sym, ap, _∙_, subst}
@@ -13,7 +13,7 @@ use lib.Dec.{leb}
 use Rattle.reading.specs.Answer.{Told}
 use Rattle.reading.specs.Answer as read
 use Rattle.reading.specs.Reading.{first, reading, padded}
-use Rattle.reading.proofs.Readings.{first-length}
+use Rattle.reading.proofs.Readings.{first-front}
 use Rattle.reader.specs.declared.Reader.{Reader}
 use Rattle.reader.specs.declared.Opened.the-variants.{Fresh, Refused}
 use Rattle.reader.specs.State.{smallest, largest, freshOf, openBy, openOf}
@@ -122,4 +122,13 @@ pub answers-are-the-readings : (B : List ℕ) (W : ℕ) (b : Bench) → Run B W 
 answers-are-the-readings B W b r =
     heard-due (calls-steps (r .calls)) (opened-stands B W (r .start) (r .opened)) (r .opened .silent) ∙ opened-due B W (r .start) (r .opened) (length (b .heard))
 
--- the first n of a reading's answers are the front of more of them
+-- Two runs over the same input with different chunks give the same answers as far as both go.
+pub chunks-do-not-matter : (B : List ℕ) (W : ℕ) (b c : Bench) → Run B W b → Run B W c → length (b .heard) ≤ length (c .heard) → b .heard ≡ take (length (b .heard)) (c .heard)
+chunks-do-not-matter B W b c r q h =
+    let n : ℕ = length (b .heard) in
+    let k : ℕ = length (c .heard) - n in
+    let e : length (c .heard) ≡ n + k = omega arith in
+    answers-are-the-readings B W b r
+    ∙ sym (first-front n k B W 0 1)
+    ∙ ap (λ (j : ℕ). take n (first j B W 0 1)) (sym e)
+    ∙ ap (take n) (sym (answers-are-the-readings B W c q))

@@ -106,3 +106,9 @@ pub record Run (B : List ℕ) (W : ℕ) (b : Bench) : Type 0 where
   pub start : Bench
   pub opened : Opened W start
   pub calls : Calls B start b
+
+-- TWO BENCHES over one input B: each has its own reader and window; their calls are interleaved in any order
+pub data Benches (B : List ℕ) (a₀ b₀ : Bench) : Bench → Bench → Type 0 where
+  both : Benches B a₀ b₀ a₀ b₀
+  first : {a b c : Bench} → Benches B a₀ b₀ a b → Call B a c → Benches B a₀ b₀ c b
+  second : {a b c : Bench} → Benches B a₀ b₀ a b → Call B b c → Benches B a₀ b₀ a c

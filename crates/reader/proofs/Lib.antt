@@ -3,3 +3,4 @@ pub mod Feeding
 pub mod Nexting
 pub mod Seeking
 pub mod Refusals
+pub mod Waiting

@@ -11,13 +11,13 @@ use lib.ListN.{length, getD, take, drop, length-append, length-take, length-drop
 use lib.Dec.{eqb}
 use Rattle.reading.specs.Bytes.{lineEnds, pieces, allBlank}
 use Rattle.reading.specs.Answer.{Five, Answer, found, windowLimit, ended, Told, told}
-use Rattle.reading.specs.Reading.{Verdict, good, badStart, badSeparator, badLengths, judged, rest, seen, recordOf, validate, complete, tailBy, tailRule, Step, onward, unended, closing, stepAt, follow, reading}
+use Rattle.reading.specs.Reading.{Verdict, good, badStart, badSeparator, badLengths, judged, rest, seen, recordOf, validate, complete, tailBy, tailRule, Step, onward, unended, closing, stepAt, follow, reading, first, ends}
 use Rattle.reading.specs.Size.{endsFrom, recordSize, TooLarge}
 use Rattle.reading.specs.Lists.{isLimit, unlessLimit, kept, SameOrOn, same, on}
 use Rattle.reading.proofs.Lines.{lineEnds-low, lineEnds-high, lineEnds-length, lineEnds-split, getD-past}
 use Rattle.reading.proofs.Steps.{Rule, four, full, tail, ruleAt, step-four, step-full, step-tail}
 use Rattle.reading.proofs.Stable.{step-wider}
-use Rattle.reading.proofs.Readings.{reading-is, reading-induction}
+use Rattle.reading.proofs.Readings.{reading-is, reading-induction, firstBy, first-zero, first-suc}
 
 -- ---- the limit, exactly
 
@@ -208,3 +208,51 @@ wider-same B W U w p L = go (reading B W p L) (reading B U p L) (reading-wider B
     go : (small large : List Told) → SameOrOn small large → kept small ≡ small → large ≡ small
     go _ _ (same ts k) e = refl
     go _ _ (on pre M q more k) e = absurd (longer pre (told M q (windowLimit M q)) (ap length (sym e ∙ kept-limit pre M q k)))
+
+kept-short : (ts : List Told) → length (kept ts) ≤ length ts
+unfolding kept
+kept-short [] = omega arith
+kept-short (t ∷ ts) = go (isLimit (t .answer)) (kept-short ts)
+  where
+    go : (b : Bool) → length (kept ts) ≤ length ts → length (unlessLimit b t (kept ts)) ≤ suc (length ts)
+    go true h = omega arith
+    go false h = omega arith
+
+-- where all answers are kept, the first is no limit, and those after it are kept
+kept-head : (t : Told) (ts : List Told) → kept (t ∷ ts) ≡ t ∷ ts → (isLimit (t .answer) ≡ false) × (kept ts ≡ ts)
+unfolding kept
+kept-head t ts = go (isLimit (t .answer)) refl
+  where
+    go : (b : Bool) → isLimit (t .answer) ≡ b → unlessLimit b t (kept ts) ≡ t ∷ ts → (isLimit (t .answer) ≡ false) × (kept ts ≡ ts)
+    go false f e = (f, cc)
+    go true f e = absurd (omega (arith, ap length e, kept-short ts))
+
+-- as long as the smaller window's answers have no window limit, the larger one's are the same
+pub first-wider : (n : ℕ) (B : List ℕ) (W U : ℕ) → W ≤ U → (p L : ℕ) → kept (first n B W p L) ≡ first n B W p L → first n B W p L ≡ first n B U p L
+first-wider zero B W U w p L k = first-zero B W p L ∙ sym (first-zero B U p L)
+first-wider (suc n) B W U w p L k =
+    first-suc n B W p L ∙ go (ruleAt B W p) (rw (first-suc n B W p L) at k) (λ q M. first-wider n B W U w q M) ∙ sym (first-suc n B U p L)
+  where
+    by : (s : Step) → kept (firstBy (λ q M. first n B W q M) n p L s) ≡ firstBy (λ q M. first n B W q M) n p L s
+        → ((q M : ℕ) → kept (first n B W q M) ≡ first n B W q M → first n B W q M ≡ first n B U q M)
+        → firstBy (λ q M. first n B W q M) n p L s ≡ firstBy (λ q M. first n B U q M) n p L s
+    by (onward r) k ih =
+        ap (λ (l : List Told). told L p (found r) ∷ l) (ih (r .end + 1) (L + 4) (kept-head (told L p (found r)) (first n B W (r .end + 1) (L + 4)) k .1))
+    by (unended r) k ih = refl
+    by (closing a) k ih = refl
+
+    same : (4 ≤ length (seen B W p)) ⊎ (length (rest B p) < W)
+        → kept (firstBy (λ q M. first n B W q M) n p L (stepAt B W p L)) ≡ firstBy (λ q M. first n B W q M) n p L (stepAt B W p L)
+        → ((q M : ℕ) → kept (first n B W q M) ≡ first n B W q M → first n B W q M ≡ first n B U q M)
+        → firstBy (λ q M. first n B W q M) n p L (stepAt B W p L) ≡ firstBy (λ q M. first n B U q M) n p L (stepAt B U p L)
+    same c k ih = rw (step-wider B W U p L w c) (by (stepAt B W p L) k ih)
+
+    go : Rule B W p → kept (firstBy (λ q M. first n B W q M) n p L (stepAt B W p L)) ≡ firstBy (λ q M. first n B W q M) n p L (stepAt B W p L)
+        → ((q M : ℕ) → kept (first n B W q M) ≡ first n B W q M → first n B W q M ≡ first n B U q M)
+        → firstBy (λ q M. first n B W q M) n p L (stepAt B W p L) ≡ firstBy (λ q M. first n B U q M) n p L (stepAt B U p L)
+    go (four h) k ih = same (inl h) k ih
+    go (tail h l) k ih = same (inr l) k ih
+    go (full h l) k ih =
+        let e = kept-head (told L p (windowLimit L p)) (ends n L p) (rw (step-full B W p L h l) at k) .0 in
+        let z : _≡_ {A = ℕ} 0 1 = cc in
+        absurd (omega arith)

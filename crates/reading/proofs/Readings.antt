@@ -3,10 +3,11 @@
 use Prim.Native.Nat.{ℕ, zero, suc, _+_, _-_, _≤_, _<_}
 use native.Mathlib.Omega.{arith}
 use native.Mathlib.Numerals.{add-one}
+use native.Mathlib.Nat.{suc-add}
 use mathlib.Core.Path.{_≡_, refl, sym, ap, _∙_}
 use mathlib.Core.Bool.{Bool, true, false, _&&_}
 use mathlib.Core.List.{List, [], _∷_, _++_}
-use lib.ListN.{length}
+use lib.ListN.{length, take}
 use Rattle.reading.specs.Answer.{Five, Answer, found, windowLimit, ended, Told, told}
 use Rattle.reading.specs.Reading.{Verdict, good, badStart, badSeparator, badLengths, judged, recordOf, validate, complete, tailBy, tailRule, seen, Step, onward, unended, closing, stepAt, follow, readFor, reading, first, padded, ends}
 use Rattle.reading.specs.Lists.{isFound, Closed, last, more}
@@ -164,3 +165,19 @@ first-length (suc n) B W p L = rw (first-suc n B W p L) (go (stepAt B W p L) (λ
     go (onward r) ih = ap suc (ih (r .end + 1) (L + 4))
     go (unended r) ih = ap suc (ends-length n L p)
     go (closing a) ih = ap suc (ends-length n L p)
+
+ends-front : (n k L p : ℕ) → take n (ends (n + k) L p) ≡ ends n L p
+ends-front zero k L p = refl
+ends-front (suc n) k L p = rw suc-add (ap (λ (l : List Told). told L p ended ∷ l) (ends-front n k L p))
+
+-- fewer answers of a reading are the front of more of them
+pub first-front : (n k : ℕ) (B : List ℕ) (W p L : ℕ) → take n (first (n + k) B W p L) ≡ first n B W p L
+first-front zero k B W p L = sym (first-zero B W p L)
+first-front (suc n) k B W p L =
+    rw (suc-add, first-suc (n + k) B W p L, first-suc n B W p L) (go (stepAt B W p L) (λ q M. first-front n k B W q M))
+  where
+    go : (s : Step) → ((q M : ℕ) → take n (first (n + k) B W q M) ≡ first n B W q M)
+        → take (suc n) (firstBy (λ q M. first (n + k) B W q M) (n + k) p L s) ≡ firstBy (λ q M. first n B W q M) n p L s
+    go (onward r) ih = ap (λ (l : List Told). told L p (found r) ∷ l) (ih (r .end + 1) (L + 4))
+    go (unended r) ih = ap (λ (l : List Told). told L p (found r) ∷ l) (ends-front n k L p)
+    go (closing a) ih = ap (λ (l : List Told). told L p a ∷ l) (ends-front n k L p)
