@@ -40,7 +40,7 @@ pub data Steps (B : List ℕ) (a : Bench) : Bench → Type 0 where
   more : {b c : Bench} → Steps B a b → Step B b c → Steps B a c
 
 -- bytes of B's next chunk are B's next bytes
-front-of : (B chunk : List ℕ) (t n : ℕ) → n ≤ length chunk → chunk ≡ take (length chunk) (drop t B) → (take n chunk ≡ take n (drop t B)) × (n ≤ length (drop t B))
+pub front-of : (B chunk : List ℕ) (t n : ℕ) → n ≤ length chunk → chunk ≡ take (length chunk) (drop t B) → (take n chunk ≡ take n (drop t B)) × (n ≤ length (drop t B))
 front-of B chunk t n h e = (
   ap (take n) e ∙ take-take n (length chunk) (drop t B) h,
   omega (arith, ap length e, length-take (length chunk) (drop t B)),

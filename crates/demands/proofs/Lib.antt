@@ -4,3 +4,9 @@ pub mod Feeds
 pub mod Chunks
 pub mod Benches
 pub mod Refused
+pub mod Early
+pub mod Lively
+pub mod Fields
+pub mod Limit
+pub mod Seeks
+pub mod Tight

@@ -151,7 +151,7 @@ module _ (B : List ℕ) (s : Reader) (w : List ℕ) (t : ℕ) (g : Good B s w t)
   abbrev four : List ℕ
   four = take 4 all
 
-  seeking-is : seekingOf s w ≡ nextWith s G (decidedBy H (s .window) (s .start) (s .line .0) (s .byte) four (settles H (s .window) (s .start) (s .ended) four))
+  pub seeking-is : seekingOf s w ≡ nextWith s G (decidedBy H (s .window) (s .start) (s .line .0) (s .byte) four (settles H (s .window) (s .start) (s .ended) four))
   unfolding seekingOf decidedOf
   seeking-is = rw (gathers, gathered-listed (s .fill) all)
 
@@ -162,7 +162,7 @@ module _ (B : List ℕ) (s : Reader) (w : List ℕ) (t : ℕ) (g : Good B s w t)
   all-seen : all ≡ seen H (s .window) (s .start)
   all-seen = ap (lineEnds (s .start)) (sym (take-all (s .window) (rest H (s .start)) (omega (arith, short, h .fillWide))))
 
-  step-is : stepWith H (s .window) (s .start) (s .line .0) four ≡ stepAt H (s .window) (s .start) (s .line .0)
+  pub step-is : stepWith H (s .window) (s .start) (s .line .0) four ≡ stepAt H (s .window) (s .start) (s .line .0)
   unfolding stepAt
   step-is = step-notes H (s .window) (s .start) (s .line .0) all ∙ rw all-seen
 

@@ -2,6 +2,7 @@
 -- Assumes nothing.
 use Prim.Native.Nat.{ℕ, _+_, _≤_}
 use mathlib.Core.Path.{_≡_}
+use mathlib.Core.Bool.{Bool, true, false}
 use mathlib.Core.Option.{Option, none, some}
 use mathlib.Core.List.{List, [], _∷_, _++_}
 use lib.ListN.{length, take, drop}
@@ -15,12 +16,15 @@ use Rattle.reader.specs.declared.Reader.{Reader}
 use Rattle.reader.specs.declared.Opened.the-variants.{Fresh}
 use Rattle.reader.specs.declared.Taken.{Taken}
 use Rattle.reader.specs.declared.Taken.the-variants as taken
+use Rattle.reader.specs.declared.Position.{Position}
+use Rattle.reader.specs.declared.Place.{Place}
+use Rattle.reader.specs.declared.Place.the-variants as place
 use Rattle.reader.specs.declared.Answer.{Answer}
 use Rattle.reader.specs.declared.Answer.the-variants.{Record, More, WindowLimit, InvalidStart, InvalidSeparator, UnequalLengths, UnexpectedEnd, End, Refused}
 use Rattle.reader.specs.State.{openOf, positionOf}
 use Rattle.reader.specs.Feed.{feedOf, fedWindow, finishOf}
 use Rattle.reader.specs.Next.{nextOf}
-use Rattle.reader.specs.Seek.{base}
+use Rattle.reader.specs.Seek.{base, seekOf}
 
 -- ---- what is heard
 
@@ -112,3 +116,28 @@ pub data Benches (B : List ℕ) (a₀ b₀ : Bench) : Bench → Bench → Type 0
   both : Benches B a₀ b₀ a₀ b₀
   first : {a b c : Bench} → Benches B a₀ b₀ a b → Call B a c → Benches B a₀ b₀ c b
   second : {a b c : Bench} → Benches B a₀ b₀ a b → Call B b c → Benches B a₀ b₀ a c
+
+-- ---- seeks
+
+-- up to where the input is taken after a seek: inside, as before; outside, the byte to feed from
+abbrev pub reachedBy : Place → ℕ → ℕ
+reachedBy place.Inside t = t
+reachedBy (place.FeedFrom q) t = q .0
+reachedBy (place.Refused k) t = t
+
+abbrev pub isRefused : Place → Bool
+isRefused place.Inside = false
+isRefused (place.FeedFrom q) = false
+isRefused (place.Refused k) = true
+
+-- a seek: what is heard is counted anew
+abbrev pub sought : Bench → Position → Bench
+sought b p =
+    let r = seekOf (b .reader) (length (b .window)) p in
+    record { reader = r .state; window = b .window; taken = reachedBy (r .answer) (b .taken); heard = [] }
+
+-- calls and seeks one after the other: after a seek the input's bytes are fed from the answered byte on, or, inside, from the reached place on
+pub data Roams (B : List ℕ) (a : Bench) : Bench → Type 0 where
+  stays : Roams B a a
+  calls : {b c : Bench} → Roams B a b → Call B b c → Roams B a c
+  seeks : {b : Bench} → Roams B a b → (p : Position) → isRefused (seekOf (b .reader) (length (b .window)) p .answer) ≡ false → Roams B a (sought b p)

@@ -42,18 +42,18 @@ pub step-tail : (B : List ℕ) (W p L : ℕ) → length (seen B W p) < 4 → len
 unfolding stepAt
 step-tail B W p L h k = rw (lt-leb 4 (length (seen B W p)) h, lt-leb W (length (rest B p)) k)
 
--- what is judged is the step itself or closes the reading
-judged-onward : (L : ℕ) (v : Verdict) (r s : Five) → judged L (onward r) v ≡ onward s → r ≡ s
-judged-onward L good r s e = cc
-judged-onward L (badStart b) r s e = cc
-judged-onward L (badSeparator b i) r s e = cc
-judged-onward L (badLengths n m i) r s e = cc
+-- what is judged is the step itself, if the verdict is good, or closes the reading
+judged-onward : (L : ℕ) (v : Verdict) (r s : Five) → judged L (onward r) v ≡ onward s → (r ≡ s) × (v ≡ good)
+judged-onward L good r s e = (cc, refl)
+judged-onward L (badStart b) r s e = let z : _≡_ {A = ℕ} 0 1 = cc in absurd (omega arith)
+judged-onward L (badSeparator b i) r s e = let z : _≡_ {A = ℕ} 0 1 = cc in absurd (omega arith)
+judged-onward L (badLengths n m i) r s e = let z : _≡_ {A = ℕ} 0 1 = cc in absurd (omega arith)
 
-judged-unended : (L : ℕ) (v : Verdict) (r s : Five) → judged L (unended r) v ≡ unended s → r ≡ s
-judged-unended L good r s e = cc
-judged-unended L (badStart b) r s e = cc
-judged-unended L (badSeparator b i) r s e = cc
-judged-unended L (badLengths n m i) r s e = cc
+judged-unended : (L : ℕ) (v : Verdict) (r s : Five) → judged L (unended r) v ≡ unended s → (r ≡ s) × (v ≡ good)
+judged-unended L good r s e = (cc, refl)
+judged-unended L (badStart b) r s e = let z : _≡_ {A = ℕ} 0 1 = cc in absurd (omega arith)
+judged-unended L (badSeparator b i) r s e = let z : _≡_ {A = ℕ} 0 1 = cc in absurd (omega arith)
+judged-unended L (badLengths n m i) r s e = let z : _≡_ {A = ℕ} 0 1 = cc in absurd (omega arith)
 
 never-onward : (L : ℕ) (v : Verdict) (r s : Five) → judged L (unended r) v ≡ onward s → ⊥
 never-onward L good r s e = let z : _≡_ {A = ℕ} 0 1 = cc in omega arith
@@ -78,12 +78,15 @@ tail-closes B p L es r = go (eqb (length es) 3) (allBlank (pieces B p es))
     go false false e = let z : _≡_ {A = ℕ} 0 1 = cc in omega arith
 
 -- what the tail rule says of a record that it answers
-tail-unended : (B : List ℕ) (p L : ℕ) (es : List ℕ) (r : Five) → tailRule B p L es ≡ unended r → (length es ≡ 3) × (r ≡ recordOf p es (length B))
+tail-unended : (B : List ℕ) (p L : ℕ) (es : List ℕ) (r : Five) → tailRule B p L es ≡ unended r → (length es ≡ 3) × (r ≡ recordOf p es (length B)) × (validate B (recordOf p es (length B)) ≡ good)
 unfolding tailRule
 tail-unended B p L es r = go (eqb (length es) 3) refl (allBlank (pieces B p es))
   where
-    go : (t : Bool) → eqb (length es) 3 ≡ t → (u : Bool) → tailBy B p L es t u ≡ unended r → (length es ≡ 3) × (r ≡ recordOf p es (length B))
-    go true f u e = (eqb-true (length es) 3 f, sym (judged-unended L (validate B (recordOf p es (length B))) (recordOf p es (length B)) r e))
+    go : (t : Bool) → eqb (length es) 3 ≡ t → (u : Bool) → tailBy B p L es t u ≡ unended r
+        → (length es ≡ 3) × (r ≡ recordOf p es (length B)) × (validate B (recordOf p es (length B)) ≡ good)
+    go true f u e =
+        let q = judged-unended L (validate B (recordOf p es (length B))) (recordOf p es (length B)) r e in
+        (eqb-true (length es) 3 f, sym (q .0), q .1)
     go false f true e = let z : _≡_ {A = ℕ} 0 1 = cc in absurd (omega arith)
     go false f false e = let z : _≡_ {A = ℕ} 0 1 = cc in absurd (omega arith)
 
@@ -93,6 +96,7 @@ pub record Onward (B : List ℕ) (W p : ℕ) (r : Five) : Type 0 where
   pub within : r .end < length B
   pub numbers : r ≡ recordOf p (seen B W p) (getD (seen B W p) 3 0)
   pub ended : 4 ≤ length (seen B W p)
+  pub valid : validate B r ≡ good
 
 pub step-onward : (B : List ℕ) (W p L : ℕ) (r : Five) → stepAt B W p L ≡ onward r → Onward B W p r
 unfolding complete
@@ -101,12 +105,13 @@ step-onward B W p L r e = go (ruleAt B W p)
     go : Rule B W p → Onward B W p r
     go (four h) =
         let q = judged-onward L (validate B (recordOf p (seen B W p) (getD (seen B W p) 3 0))) (recordOf p (seen B W p) (getD (seen B W p) 3 0)) r (sym (step-four B W p L h) ∙ e) in
-        let f : getD (seen B W p) 3 0 ≡ r .end = ap (λ (x : Five). x .end) q in
+        let f : getD (seen B W p) 3 0 ≡ r .end = ap (λ (x : Five). x .end) (q .0) in
         record {
           beyond = omega (arith, lineEnds-low p (take W (drop p B)) 3 h);
           within = omega (arith, lineEnds-low p (take W (drop p B)) 3 h, lineEnds-high p (take W (drop p B)) 3 h, length-take W (drop p B), length-drop p B);
-          numbers = sym q;
+          numbers = sym (q .0);
           ended = h;
+          valid = ap (validate B) (sym (q .0)) ∙ q .1;
         }
     go (full h k) = let z : _≡_ {A = ℕ} 0 1 = cc (step-full B W p L h k) in absurd (omega arith)
     go (tail h k) = absurd (tail-closes B p L (seen B W p) r (sym (step-tail B W p L h k) ∙ e))
@@ -121,6 +126,7 @@ pub record Unended (B : List ℕ) (W p : ℕ) (r : Five) : Type 0 where
   pub three : length (seen B W p) ≡ 3
   pub within : p + 3 ≤ length B
   pub small : length (rest B p) < W
+  pub valid : validate B r ≡ good
 
 pub step-unended : (B : List ℕ) (W p L : ℕ) (r : Five) → stepAt B W p L ≡ unended r → Unended B W p r
 unfolding complete
@@ -137,6 +143,7 @@ step-unended B W p L r e = go (ruleAt B W p)
           three = q .0;
           within = omega (arith, q .0, lineEnds-length p (take W (drop p B)), length-take W (drop p B), length-drop p B);
           small = k;
+          valid = ap (validate B) (q .1) ∙ q .2;
         }
 
 -- the line ends seen, where there are n + 1 or more: rising from p, within the input
