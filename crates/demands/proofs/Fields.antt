@@ -148,7 +148,7 @@ module _ (B : List ℕ) (s : Reader) (w : List ℕ) (t : ℕ) (g : Good B s w t)
       go false = tt
 
 -- what next answers of a reader that stands for a reading
-next-viewed : (B : List ℕ) (s : Reader) (w : List ℕ) (t : ℕ) → Good B s w t → Viewed s w (nextOf s w .answer)
+pub next-viewed : (B : List ℕ) (s : Reader) (w : List ℕ) (t : ℕ) → Good B s w t → Viewed s w (nextOf s w .answer)
 unfolding nextOf
 next-viewed B s w t g = rw (good-owned B s w t g) (go (s .closed) refl)
   where
@@ -195,7 +195,7 @@ module _ (B : List ℕ) (s : Reader) (w : List ℕ) (t : ℕ) (g : Good B s w t)
   qual-same r k = ap (λ (l : List ℕ). trimCr (drop (r .qual) l)) (held-same (r .end) k) ∙ sym (qual-shift B (base s) r)
 
 -- next leaves the fill point
-next-fill : (s : Reader) (w : List ℕ) → nextOf s w .state .fill ≡ s .fill
+pub next-fill : (s : Reader) (w : List ℕ) → nextOf s w .state .fill ≡ s .fill
 unfolding nextOf seekingOf
 next-fill s w = go (own s (length w)) (s .closed)
   where

@@ -9,4 +9,5 @@ pub mod Lively
 pub mod Fields
 pub mod Limit
 pub mod Seeks
+pub mod Sets
 pub mod Tight

@@ -15,12 +15,12 @@ use Rattle.reading.specs.Bytes.{lineEnds}
 use Rattle.reading.specs.Answer.{Five, Id, absent, range, found, windowLimit, invalidStart, invalidSeparator, unequalLengths, unexpectedEnd, ended, Told, told}
 use Rattle.reading.specs.Answer as read
 use Rattle.reading.specs.Reading.{Step, onward, unended, closing, rest, seen, recordOf, stepWith, stepAt, settled, first, ends}
-use Rattle.reading.specs.Lists.{isLimit}
+use Rattle.reading.specs.Lists.{isFound, isLimit}
 use Rattle.reading.specs.Shift.{shiftFive, shiftId, shift}
 use Rattle.reading.proofs.Lines.{lineEnds-append}
-use Rattle.reading.proofs.Steps.{Onward, step-onward}
+use Rattle.reading.proofs.Steps.{Onward, step-onward, step-unended}
 use Rattle.reading.proofs.Stable.{step-prefix, step-notes}
-use Rattle.reading.proofs.Readings.{firstBy, first-suc}
+use Rattle.reading.proofs.Readings.{firstBy, first-suc, closesWell, step-closes}
 use Rattle.reading.proofs.Limits.{limit-here}
 use Rattle.reading.proofs.Shifted.{shiftStep, step-shift}
 use Rattle.record.specs.declared.Noted.{Noted}
@@ -31,6 +31,7 @@ use Rattle.record.specs.Check.{fiveOf, recordAt, rangeOf}
 use Rattle.reader.specs.declared.Byte.{Byte}
 use Rattle.reader.specs.declared.Reader.{Reader}
 use Rattle.reader.specs.declared.Answer.{Answer}
+use Rattle.reader.specs.declared.Answer.the-variants.{Record, More, WindowLimit, InvalidStart, InvalidSeparator, UnequalLengths, UnexpectedEnd, End, Refused}
 use Rattle.reader.specs.declared.Next.{Next}
 use Rattle.reader.specs.State.{mostBytes, stateOf, Notes, own}
 use Rattle.reader.specs.Next.{answerOf, deciding, settles, settledBy, decidedBy, decidedOf, onwardOf, nextWith, searchedOf, seekingOf, closedOf, nextBy, nextOf}
@@ -159,7 +160,7 @@ module _ (B : List ℕ) (s : Reader) (w : List ℕ) (t : ℕ) (g : Good B s w t)
   short = length-drop (s .start) H ∙ ap (λ (n : ℕ). n - s .start) long
 
   -- they are those that the reading sees
-  all-seen : all ≡ seen H (s .window) (s .start)
+  pub all-seen : all ≡ seen H (s .window) (s .start)
   all-seen = ap (lineEnds (s .start)) (sym (take-all (s .window) (rest H (s .start)) (omega (arith, short, h .fillWide))))
 
   pub step-is : stepWith H (s .window) (s .start) (s .line .0) four ≡ stepAt H (s .window) (s .start) (s .line .0)
@@ -268,6 +269,62 @@ module _ (B : List ℕ) (s : Reader) (w : List ℕ) (t : ℕ) (g : Good B s w t)
                 };
             gives = λ n. due-first n ∙ sym (due-few n B _ (G .noted) (rw (q .1) less));
           }
+
+-- ---- after a record
+
+-- what the state is after an answer that is a record: it starts where the record does; if the reading is open, all four line ends are noted
+abbrev pub Hand : Reader → Answer → Type 0
+Hand s (Record r b) = (r .start ≡ s .start) × (s .closed ≡ false → 4 ≤ length (listed (s .noted)))
+Hand s More = Unit {0}
+Hand s (WindowLimit L b) = Unit {0}
+Hand s (InvalidStart x L) = Unit {0}
+Hand s (InvalidSeparator x L i) = Unit {0}
+Hand s (UnequalLengths n m L i) = Unit {0}
+Hand s (UnexpectedEnd L i) = Unit {0}
+Hand s End = Unit {0}
+Hand s (Refused k) = Unit {0}
+
+closing-hand : (s : Reader) (b : Byte) (a : read.Answer) → isFound a ≡ false → Hand s (answerOf b a)
+closing-hand s b (found r) e = let z : _≡_ {A = ℕ} 0 1 = cc in absurd (omega arith)
+closing-hand s b (windowLimit L p) e = tt
+closing-hand s b (invalidStart x L) e = tt
+closing-hand s b (invalidSeparator x L i) e = tt
+closing-hand s b (unequalLengths n m L i) e = tt
+closing-hand s b (unexpectedEnd L i) e = tt
+closing-hand s b ended e = tt
+
+module _ (B : List ℕ) (s : Reader) (w : List ℕ) (t : ℕ) (g : Good B s w t) (few : Searched s w) (open′ : s .closed ≡ false) where
+  settled-hand : (x : Step) → stepAt (take (s .fill) w) (s .window) (s .start) (s .line .0) ≡ x → closesWell x
+      → Hand (nextWith s (gathered (s .fill) (lineEnds (s .start) (slice (s .start) (s .fill) w))) (settledBy (s .byte) x) .state) (settledBy (s .byte) x .answer)
+  settled-hand (onward r) e c =
+      let o = step-onward (take (s .fill) w) (s .window) (s .start) (s .line .0) r e in
+      let many : 4 ≤ length (lineEnds (s .start) (slice (s .start) (s .fill) w)) = rw (all-seen B s w t g few open′) (o .ended) in
+      (ap (λ (x : Five). x .start) (o .numbers), λ y. omega (arith, ap length (gathered-listed (s .fill) (lineEnds (s .start) (slice (s .start) (s .fill) w))), length-take 4 (lineEnds (s .start) (slice (s .start) (s .fill) w)), many))
+  settled-hand (unended r) e c =
+      let o = step-unended (take (s .fill) w) (s .window) (s .start) (s .line .0) r e in
+      (ap (λ (x : Five). x .start) (o .numbers), λ y. let z : _≡_ {A = ℕ} 0 1 = cc in absurd (omega arith))
+  settled-hand (closing a) e c = closing-hand _ (s .byte) a c
+
+  seeking-hand : Hand (seekingOf s w .state) (seekingOf s w .answer)
+  seeking-hand =
+      rw (seeking-is B s w t g few open′)
+      (go (settles (take (s .fill) w) (s .window) (s .start) (s .ended) (take 4 (lineEnds (s .start) (slice (s .start) (s .fill) w)))))
+    where
+      go : (b : Bool)
+          → Hand (nextWith s (gathered (s .fill) (lineEnds (s .start) (slice (s .start) (s .fill) w))) (decidedBy (take (s .fill) w) (s .window) (s .start) (s .line .0) (s .byte) (take 4 (lineEnds (s .start) (slice (s .start) (s .fill) w))) b) .state)
+          (decidedBy (take (s .fill) w) (s .window) (s .start) (s .line .0) (s .byte) (take 4 (lineEnds (s .start) (slice (s .start) (s .fill) w))) b .answer)
+      go true =
+          rw (step-is B s w t g few open′)
+          (settled-hand (stepAt (take (s .fill) w) (s .window) (s .start) (s .line .0)) refl (step-closes (take (s .fill) w) (s .window) (s .start) (s .line .0)))
+      go false = tt
+
+pub next-hand : (B : List ℕ) (s : Reader) (w : List ℕ) (t : ℕ) → Good B s w t → Hand (nextOf s w .state) (nextOf s w .answer)
+unfolding nextOf
+next-hand B s w t g = rw (good-owned B s w t g) (go (s .closed) refl)
+  where
+    go : (c : Bool) → s .closed ≡ c → Hand (nextBy s w true c .state) (nextBy s w true c .answer)
+    go true c = tt
+    go false c = let o = onward-good B s w t g c in seeking-hand B (onwardOf s) w t (o .0) (o .1) (o .2)
 
 -- ---- every state
 
