@@ -20,7 +20,7 @@ use Rattle.reading.proofs.Lines.{lineEnds-hold}
 use Rattle.reading.proofs.Steps.{seen-low, seen-high, seen-rises, step-onward, step-unended}
 use Rattle.reading.proofs.Readings.{closesWell, step-closes}
 use Rattle.record.specs.Check.{fiveOf}
-use Rattle.reading.proofs.Shifted.{head-shift, seq-shift, qual-shift}
+use Rattle.reading.proofs.Shifted.{slice-shift, head-shift, seq-shift, qual-shift}
 use mathlib.Core.Option.{Option, none, some}
 use Rattle.record.specs.declared.Record.{Record as Rec}
 use Rattle.record.specs.declared.Noted.{Noted}
@@ -240,3 +240,13 @@ fields-are-the-readings B b g r y e =
     let v = answer-viewed (b .reader) (b .window) r y (nextOf (b .reader) (b .window) .answer) e (next-viewed B (b .reader) (b .window) (b .taken) g) in
     views-shown B (nextOf (b .reader) (b .window) .state) (b .window) (b .taken) (next-served B (b .reader) (b .window) (b .taken) g .good) (fiveOf r) (v .0)
     (omega (arith, v .1, next-fill (b .reader) (b .window)))
+
+-- WRITE-UNCHANGED: the bytes of the window from the start to the end of a record that next answers, which `write_unchanged` copies, are the record's own bytes
+-- of the input.
+pub record-bytes-are-the-inputs : (B : List ℕ) (b : Bench) → Stands B b → (r : Rec) (y : Byte) → nextOf (b .reader) (b .window) .answer ≡ Record r y
+    → slice (r .start) (r .end) (b .window) ≡ slice (base (nextOf (b .reader) (b .window) .state) + r .start) (base (nextOf (b .reader) (b .window) .state) + r .end) B
+record-bytes-are-the-inputs B b g r y e =
+    let s = nextOf (b .reader) (b .window) .state in
+    let v = answer-viewed (b .reader) (b .window) r y (nextOf (b .reader) (b .window) .answer) e (next-viewed B (b .reader) (b .window) (b .taken) g) in
+    ap (drop (r .start)) (held-same B s (b .window) (b .taken) (next-served B (b .reader) (b .window) (b .taken) g .good) (r .end) (omega (arith, v .1, next-fill (b .reader) (b .window))))
+    ∙ sym (slice-shift (base s) (r .start) (r .end) B)
