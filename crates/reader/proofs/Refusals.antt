@@ -1,15 +1,17 @@
--- Refusals: exactly when each number is given, and that a refusal changes nothing.
+-- Refusals change nothing, and neither does an empty chunk; next is refused for a foreign state alone; an answer's number is the reading's.
 -- Assumes nothing.
 use mathlib.Core.Path.{_≡_, refl, sym, ap, _∙_}
 use mathlib.Core.Bool.{Bool, true, false, _&&_}
 use mathlib.Core.Logic.{_↔_}
-use mathlib.Core.List.{List}
+use mathlib.Core.List.{List, [], _∷_, _++_}
 use mathlib.Core.Option.{Option, none, some}
 use Prim.Native.Nat.{ℕ, _+_, _-_, _<_, _≤_}
 use native.Mathlib.Omega.{arith}
 use lib.Dec.{leb}
-use lib.ListN.{length, take}
-use borrow.Author.Tests.{le-leb, lt-leb, leb-true, leb-false}
+use lib.ListN.{length, take, drop, length-take, take-append-drop}
+use borrow.Author.Tests.{le-ltb}
+use native.Mathlib.Nat.{add-zero}
+use Rattle.lines.proofs.Laws.{drop-within}
 use Rattle.reading.specs.Answer as told
 use Rattle.reading.specs.Reading.{Step, onward, unended, closing, stepWith, rest}
 use Rattle.record.specs.Noted.{listed}
@@ -23,7 +25,7 @@ use Rattle.reader.specs.declared.Taken.the-variants as taken
 use Rattle.reader.specs.declared.Ending.the-variants as ending
 use Rattle.reader.specs.declared.Place.the-variants as place
 use Rattle.reader.specs.State.{mostBytes, own}
-use Rattle.reader.specs.Feed.{heldOf, takenOf, takingBy, takingOf, feedBy, feedOf, fedBy, fedWindow, finishBy, finishOf}
+use Rattle.reader.specs.Feed.{heldOf, takenOf, moves, takingBy, takingOf, feedBy, feedOf, landed, fedBy, fedWindow, finishBy, finishOf}
 use Rattle.reader.specs.Next.{answerOf, settles, settledBy, decidedBy, decidedOf, onwardOf, searchedOf, seekingOf, closedOf, nextBy, nextOf}
 use Rattle.reader.specs.Seek.{isHeld, movedBy, seekBy, seekOf}
 use Rattle.reader.specs.Numbers.{openNumber, feedNumber, finishNumber, seekNumber, nextNumber}
@@ -91,7 +93,7 @@ seeking-answers s w k e =
     let es = listed (searchedOf s w .noted) in
     decided-answers (take (s .fill) w) (s .window) (s .start) (s .line .0) (s .byte) es (settles (take (s .fill) w) (s .window) (s .start) (s .ended) es) k e
 
--- NEXT: it is refused exactly for a foreign state, with 2, and hands the state back as it was (it is lent no memory that it could change)
+-- NEXT: it is refused for a foreign state alone, with 2, and hands the state back as it was (it is lent no memory that it could change)
 pub next-refused : (s : Reader) (w : List ℕ) (k : ℕ) → nextOf s w .answer ≡ Refused k → (own s (length w) ≡ false) × (k ≡ 2) × (nextOf s w .state ≡ s)
 unfolding nextOf
 next-refused s w k = go (own s (length w)) refl (s .closed)
@@ -125,3 +127,44 @@ number-kept b (told.invalidSeparator x L i) = refl
 number-kept b (told.unequalLengths n m L i) = refl
 number-kept b (told.unexpectedEnd L i) = refl
 number-kept b told.ended = refl
+
+-- ---- an empty chunk
+
+-- AN EMPTY CHUNK takes 0 and changes nothing
+pub empty-chunk-state : (s : Reader) (w t : ℕ) → feedOf s w 0 .answer ≡ taken.Took t → (t ≡ 0) × (feedOf s w 0 .state ≡ s)
+unfolding feedOf takingOf
+empty-chunk-state s w t = go (own s w) (s .ended) (s .waiting)
+  where
+    none-taken : takenOf s 0 ≡ 0
+    none-taken = omega arith
+
+    still : moves s 0 ≡ false
+    still = le-ltb (s .window - s .fill) 0 (omega arith)
+
+    by : (b : Bool) → takingBy s 0 b .answer ≡ taken.Took t → (t ≡ 0) × (takingBy s 0 b .state ≡ s)
+    by true e = let q : t ≡ takenOf s 0 = cc in (q ∙ none-taken, rw (still, none-taken, add-zero))
+    by false e = let z : _≡_ {A = ℕ} 0 1 = cc in absurd (omega arith)
+
+    go : (a b c : Bool) → feedBy s 0 a b c .answer ≡ taken.Took t → (t ≡ 0) × (feedBy s 0 a b c .state ≡ s)
+    go false b c e = let z : _≡_ {A = ℕ} 0 1 = cc in absurd (omega arith)
+    go true true c e = let z : _≡_ {A = ℕ} 0 1 = cc in absurd (omega arith)
+    go true false false e = let z : _≡_ {A = ℕ} 0 1 = cc in absurd (omega arith)
+    go true false true e = by (leb (s .byte .0 + heldOf s + takenOf s 0) mostBytes) e
+
+-- and leaves the window's bytes as they were
+pub empty-chunk-window : (s : Reader) (w : List ℕ) → fedWindow s w [] ≡ w
+unfolding fedWindow landed
+empty-chunk-window s w = go (feedOf s (length w) 0 .answer)
+  where
+    none-taken : takenOf s 0 ≡ 0
+    none-taken = omega arith
+
+    still : moves s 0 ≡ false
+    still = le-ltb (s .window - s .fill) 0 (omega arith)
+
+    go : (a : _) → fedBy s w [] a ≡ w
+    go (taken.Refused k) = refl
+    go (taken.Took t) = rw (still, none-taken) (by (length (take (s .fill) w)) refl)
+      where
+        by : (n : ℕ) → length (take (s .fill) w) ≡ n → take (s .fill) w ++ drop (n + 0) w ≡ w
+        by n e = ap (λ (k : ℕ). take (s .fill) w ++ drop k w) (add-zero n ∙ sym e ∙ length-take (s .fill) w) ∙ ap (λ (l : List ℕ). take (s .fill) w ++ l) (drop-within (s .fill) w) ∙ take-append-drop (s .fill) w

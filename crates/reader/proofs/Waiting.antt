@@ -5,7 +5,7 @@ use native.Mathlib.Omega.{arith}
 use mathlib.Core.Path.{_≡_, refl, sym, ap, _∙_}
 use mathlib.Core.Bool.{Bool, true, false, _||_}
 use mathlib.Core.Logic.{_↔_}
-use mathlib.Core.List.{List}
+use mathlib.Core.List.{List, [], _∷_}
 use lib.ListN.{length, take, length-drop}
 use lib.Seq.{length-take-le}
 use lib.Dec.{leb}
@@ -14,11 +14,12 @@ use Rattle.reading.specs.Answer as told
 use Rattle.reading.specs.Reading.{Step, onward, unended, closing, stepWith, rest}
 use Rattle.record.specs.declared.Noted.{Noted}
 use Rattle.record.specs.declared.Noted.the-variants.{Zero, One, Two, Three, Four}
-use Rattle.record.specs.Noted.{listed}
+use Rattle.record.specs.Noted.{listed, after, gathered, soughtOf}
 use Rattle.reader.specs.declared.Byte.{Byte}
 use Rattle.reader.specs.declared.Reader.{Reader}
 use Rattle.reader.specs.declared.Answer.the-variants.{More, Refused}
 use Rattle.reader.specs.State.{own, Own}
+use Rattle.reader.specs.Waiting.{settlesNow, Wants}
 use Rattle.reader.specs.Next.{answerOf, settles, settledBy, decidedBy, decidedOf, onwardBy, onwardOf, searchedOf, seekingOf, nextBy, nextOf}
 use Rattle.reader.proofs.Owning.{own-true}
 
@@ -36,10 +37,6 @@ settled-more : (b : Byte) (t : Step) → settledBy b t .answer ≡ More → ⊥
 settled-more b (onward r) e = never-more b (told.found r) e
 settled-more b (unended r) e = never-more b (told.found r) e
 settled-more b (closing a) e = never-more b a e
-
--- the test that decides: the record that is sought is complete, or W bytes are held from its start, or the end is noted
-abbrev pub settlesNow : Reader → List ℕ → Bool
-settlesNow s w = settles (take (s .fill) w) (s .window) (s .start) (s .ended) (listed (searchedOf s w .noted))
 
 decided-more : (H : List ℕ) (W p L : ℕ) (b : Byte) (es : List ℕ) (t : Bool) → decidedBy H W p L b es t .answer ≡ More → t ≡ false
 decided-more H W p L b es true e = absurd (settled-more b (stepWith H W p L es) e)
@@ -69,19 +66,29 @@ or-fails : (a b : Bool) → (a || b) ≡ false → (a ≡ false) × (b ≡ false
 or-fails true b e = let z : _≡_ {A = ℕ} 0 1 = cc in absurd (omega arith)
 or-fails false b e = (refl, e)
 
--- what a state is after a request
-pub record Wants (s : Reader) : Type 0 where
-  pub waits : s .waiting ≡ true
-  pub goesOn : s .ended ≡ false
-  pub room : s .fill - s .start < s .window
-
 decided-waits : (H : List ℕ) (W p L : ℕ) (b : Byte) (es : List ℕ) (t : Bool) → t ≡ false → decidedBy H W p L b es t .waiting ≡ true
 decided-waits H W p L b es true e = let z : _≡_ {A = ℕ} 0 1 = cc in absurd (omega arith)
 decided-waits H W p L b es false e = refl
 
-seeking-wants : (s : Reader) (w : List ℕ) → s .fill ≤ length w → seekingOf s w .answer ≡ More → Wants (seekingOf s w .state)
+-- where fewer than four line ends are noted after a search, all bytes are searched
+gathered-all : (n : ℕ) (es : List ℕ) → length (listed (gathered n es .noted)) < 4 → gathered n es .mark ≡ n
+gathered-all n [] h = refl
+gathered-all n (a ∷ []) h = refl
+gathered-all n (a ∷ b ∷ []) h = refl
+gathered-all n (a ∷ b ∷ c ∷ []) h = refl
+gathered-all n (a ∷ b ∷ c ∷ d ∷ es) h = absurd (omega arith)
+
+sought-all : (H : List ℕ) (e : Noted) (m : ℕ) → length (listed e) < 4 → length (listed (soughtOf H e m .noted)) < 4 → soughtOf H e m .mark ≡ length H
+unfolding soughtOf
+sought-all H Zero m h k = gathered-all (length H) (after H m) k
+sought-all H (One a) m h k = gathered-all (length H) (a ∷ after H m) k
+sought-all H (Two a b) m h k = gathered-all (length H) (a ∷ b ∷ after H m) k
+sought-all H (Three a b c) m h k = gathered-all (length H) (a ∷ b ∷ c ∷ after H m) k
+sought-all H (Four a b c d) m h k = absurd (omega arith)
+
+seeking-wants : (s : Reader) (w : List ℕ) → s .fill ≤ length w → length (listed (s .noted)) < 4 → seekingOf s w .answer ≡ More → Wants (seekingOf s w .state)
 unfolding seekingOf decidedOf
-seeking-wants s w fits e =
+seeking-wants s w fits few e =
     let H : List ℕ = take (s .fill) w in
     let es : List ℕ = listed (searchedOf s w .noted) in
     let d = seeking-more s w .0 e in
@@ -91,9 +98,10 @@ seeking-wants s w fits e =
       waits = decided-waits H (s .window) (s .start) (s .line .0) (s .byte) es (settlesNow s w) d;
       goesOn = k .1;
       room = omega (arith, leb-false (s .window) (length (rest H (s .start))) (k .0), length-drop (s .start) H, length-take-le (s .fill) w fits);
+      allSearched = sought-all H (s .noted) (s .mark) few (leb-false 4 (length es) (f .0)) ∙ length-take-le (s .fill) w fits;
     }
 
--- AFTER A REQUEST the state waits, the end is not noted, and there is room for at least one byte
+-- AFTER A REQUEST the state waits, the end is not noted, there is room for at least one byte, and every held byte is searched
 pub next-wants : (s : Reader) (w : List ℕ) → Own s (length w) → nextOf s w .answer ≡ More → Wants (nextOf s w .state)
 unfolding nextOf
 next-wants s w o = rw (own-true s (length w) o) (go (s .closed))
@@ -105,9 +113,16 @@ next-wants s w o = rw (own-true s (length w) o) (go (s .closed))
     fill-is (Three a b c) = refl
     fill-is (Four a b c d) = refl
 
+    few : (e : Noted) → s .noted ≡ e → length (listed (onwardBy s e .noted)) < 4
+    few Zero q = rw q (omega arith)
+    few (One a) q = rw q (omega arith)
+    few (Two a b) q = rw q (omega arith)
+    few (Three a b c) q = rw q (omega arith)
+    few (Four a b c d) q = omega arith
+
     go : (c : Bool) → nextBy s w true c .answer ≡ More → Wants (nextBy s w true c .state)
     go true e = let z : _≡_ {A = ℕ} 0 1 = cc in absurd (omega arith)
-    go false e = seeking-wants (onwardOf s) w (omega (arith, fill-is (s .noted), o .inside, o .opened)) e
+    go false e = seeking-wants (onwardOf s) w (omega (arith, fill-is (s .noted), o .inside, o .opened)) (few (s .noted) refl) e
 
 -- AFTER THE END IS NOTED next never asks for input
 pub ended-answers : (s : Reader) (w : List ℕ) → Own s (length w) → s .ended ≡ true → nextOf s w .answer ≡ More → ⊥
