@@ -9,7 +9,7 @@ use Rattle.reading.specs.Reading.{first as firstOf, reading}
 use Rattle.reading.specs.Lists.{kept, SameOrOn}
 use Rattle.reading.proofs.Readings.{first-front}
 use Rattle.reading.proofs.Limits.{first-wider, reading-wider}
-use Rattle.demands.specs.Runs.{Bench, Call, Calls, here, then, Opened, Run, Benches, both, first, second}
+use Rattle.demands.specs.Runs.{Bench, Call, Calls, here, then, Opened, Run, Benches, both, first, second, Agree}
 use Rattle.demands.proofs.Chunks.{answers-are-the-readings}
 
 first-calls : {B : List ℕ} {a₀ b₀ a b : Bench} → Benches B a₀ b₀ a b → Calls B a₀ a
@@ -37,16 +37,6 @@ larger-window B W U w b c r q n h k e =
     let f = front-heard B W b n r h in
     let k′ : kept (firstOf n B W 0 1) ≡ firstOf n B W 0 1 = rw f at e in
     f ∙ first-wider n B W U w 0 1 k′ ∙ sym (front-heard B U c n q k)
-
--- what two benches hear
-pub record Agree (B : List ℕ) (W U : ℕ) (a b : Bench) : Type 0 where
-  -- each hears the answers of its own window's reading
-  pub first-reads : a .heard ≡ firstOf (length (a .heard)) B W 0 1
-  pub second-reads : b .heard ≡ firstOf (length (b .heard)) B U 0 1
-  -- and as long as the one with the smaller window has heard no window limit, both have heard the same
-  pub agree : (n : ℕ) → n ≤ length (a .heard) → n ≤ length (b .heard) → kept (take n (a .heard)) ≡ take n (a .heard) → take n (a .heard) ≡ take n (b .heard)
-  -- their whole readings are equal, or the smaller one's closes with a window limit where the larger one's goes on
-  pub wholly : SameOrOn (reading B W 0 1) (reading B U 0 1)
 
 -- TWO BENCHES read the same run at once, each through its own window, of W and U bytes, W at most U, chunked differently, their calls interleaved in any order:
 -- each one's answers are those of its own reading, and they agree with each other.

@@ -1,3 +1,4 @@
+pub mod Demands
 pub mod Standing
 pub mod Nexts
 pub mod Feeds

@@ -25,9 +25,10 @@ use Rattle.reader.specs.Next.{nextOf}
 use Rattle.reader.specs.Seek.{base}
 use Rattle.reader.proofs.Owning.{own-true}
 use Rattle.reader.proofs.Refusals.{next-refused}
-use Rattle.reader.proofs.Waiting.{Wants, next-wants, ended-answers}
+use Rattle.reader.specs.Waiting.{Wants}
+use Rattle.reader.proofs.Waiting.{next-wants, ended-answers}
 use borrow.Author.Tests.{le-leb}
-use Rattle.demands.specs.Runs.{heardOf, placed, addTo, tookOf, Bench, fed, finished, asked, Call, feed, finish, next, Calls, here, then, Opened, Run}
+use Rattle.demands.specs.Runs.{heardOf, placed, addTo, tookOf, Bench, fed, finished, asked, Call, feed, finish, next, Calls, here, then, Opened, Run, Attended, begins, hears, serves, closes}
 use Rattle.demands.proofs.Standing.{Good, good-own, good-owned}
 use Rattle.demands.proofs.Chunks.{Stands, front-of, call-step, step-stands, calls-steps, steps-stand, opened-stands, answers-are-the-readings}
 use Rattle.demands.proofs.Feeds.{took-some}
@@ -50,10 +51,10 @@ falls-below b t n m h k l = omega arith
 
 -- the bench after a request
 module _ (B : List ℕ) (b : Bench) (g : Stands B b) (more : nextOf (b .reader) (b .window) .answer ≡ More) where
-  after : Stands B (asked b)
+  pub after : Stands B (asked b)
   after = step-stands (call-step (next {b = b})) g
 
-  wants : Wants (asked b .reader)
+  pub wants : Wants (asked b .reader)
   wants = next-wants (b .reader) (b .window) (good-own B (b .reader) (b .window) (b .taken) g) more
 
   -- DEMAND 3. "Straight after a request for input, a nonempty chunk short of the size limit loses at least one byte to us."
@@ -77,12 +78,12 @@ module _ (B : List ℕ) (b : Bench) (g : Stands B b) (more : nextOf (b .reader) 
       rw reached (near-by (b .taken) (takenOf (asked b .reader) (length chunk)) (length chunk) (length B) (length (drop (b .taken) B)) mostBytes (omega arith) m (length-drop (b .taken) B) (h .near) small)
 
   -- so of a nonempty chunk of them at least one is taken
-  takes : (chunk : List ℕ) → 0 < length chunk → chunk ≡ take (length chunk) (drop (b .taken) B) → length B ≤ mostBytes
+  pub takes : (chunk : List ℕ) → 0 < length chunk → chunk ≡ take (length chunk) (drop (b .taken) B) → length B ≤ mostBytes
       → 0 < tookOf (feedOf (asked b .reader) (length (b .window)) (length chunk) .answer)
   takes chunk nonempty q small = let t = a-byte-is-taken chunk nonempty (next-near chunk q small) in rw (t .1) (t .2)
 
   -- and finish is accepted
-  finish-accepted : finishOf (asked b .reader) (length (b .window)) .state .ended ≡ true
+  pub finish-accepted : finishOf (asked b .reader) (length (b .window)) .state .ended ≡ true
   unfolding finishOf
   finish-accepted = let o = good-owned B (asked b .reader) (b .window) (b .taken) after in simp (o, wants .goesOn, wants .waits)
 
@@ -190,14 +191,6 @@ every-answer-is-reached B W w small o e n =
     (b, r, answers-are-the-readings B W b r ∙ ap (λ (k : ℕ). first k B W 0 1) q)
 
 -- ---- how many requests there are
-
--- calls that answer each request straight away: by a nonempty chunk of the input's next bytes, or, when all is taken, by announcing the end; k requests so far
-pub data Attended (B : List ℕ) (a : Bench) : Bench → ℕ → Type 0 where
-  begins : Attended B a a 0
-  hears : {b : Bench} {k : ℕ} → Attended B a b k → (nextOf (b .reader) (b .window) .answer ≡ More → ⊥) → Attended B a (asked b) k
-  serves : {b : Bench} {k : ℕ} → Attended B a b k → nextOf (b .reader) (b .window) .answer ≡ More → (chunk : List ℕ) → 0 < length chunk
-      → chunk ≡ take (length chunk) (drop (b .taken) B) → Attended B a (fed (asked b) chunk) (suc k)
-  closes : {b : Bench} {k : ℕ} → Attended B a b k → nextOf (b .reader) (b .window) .answer ≡ More → length B ≤ b .taken → Attended B a (finished (asked b)) (suc k)
 
 -- the requests so far: one for each byte taken at most, and one for the end
 record Counted (B : List ℕ) (b : Bench) (k : ℕ) : Type 0 where

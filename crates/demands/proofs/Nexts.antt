@@ -272,9 +272,10 @@ module _ (B : List ℕ) (s : Reader) (w : List ℕ) (t : ℕ) (g : Good B s w t)
 
 -- ---- after a record
 
--- what the state is after an answer that is a record: it starts where the record does; if the reading is open, all four line ends are noted
+-- what the state is after an answer that is a record: it starts where the record does; if the reading is open, all four line ends are noted;
+-- if it is closed, the end is noted, and fewer are
 abbrev pub Hand : Reader → Answer → Type 0
-Hand s (Record r b) = (r .start ≡ s .start) × (s .closed ≡ false → 4 ≤ length (listed (s .noted)))
+Hand s (Record r b) = (r .start ≡ s .start) × (s .closed ≡ false → 4 ≤ length (listed (s .noted))) × (s .closed ≡ true → (s .ended ≡ true) × (length (listed (s .noted)) < 4))
 Hand s More = Unit {0}
 Hand s (WindowLimit L b) = Unit {0}
 Hand s (InvalidStart x L) = Unit {0}
@@ -294,29 +295,38 @@ closing-hand s b (unexpectedEnd L i) e = tt
 closing-hand s b ended e = tt
 
 module _ (B : List ℕ) (s : Reader) (w : List ℕ) (t : ℕ) (g : Good B s w t) (few : Searched s w) (open′ : s .closed ≡ false) where
+  -- a record with no final LF is answered once the end is noted
+  unended-over : (r : Five) → stepAt (take (s .fill) w) (s .window) (s .start) (s .line .0) ≡ unended r
+      → settles (take (s .fill) w) (s .window) (s .start) (s .ended) (take 4 (lineEnds (s .start) (slice (s .start) (s .fill) w))) ≡ true → s .ended ≡ true
+  unended-over r e d =
+      let o = step-unended (take (s .fill) w) (s .window) (s .start) (s .line .0) r e in
+      let n : length (lineEnds (s .start) (slice (s .start) (s .fill) w)) ≡ 3 = ap length (all-seen B s w t g few open′) ∙ o .three in
+      simp (lt-leb 4 (length (take 4 (lineEnds (s .start) (slice (s .start) (s .fill) w)))) (omega (arith, length-take 4 (lineEnds (s .start) (slice (s .start) (s .fill) w)), n)), lt-leb (s .window) (length (rest (take (s .fill) w) (s .start))) (o .small)) at d
+
   settled-hand : (x : Step) → stepAt (take (s .fill) w) (s .window) (s .start) (s .line .0) ≡ x → closesWell x
+      → settles (take (s .fill) w) (s .window) (s .start) (s .ended) (take 4 (lineEnds (s .start) (slice (s .start) (s .fill) w))) ≡ true
       → Hand (nextWith s (gathered (s .fill) (lineEnds (s .start) (slice (s .start) (s .fill) w))) (settledBy (s .byte) x) .state) (settledBy (s .byte) x .answer)
-  settled-hand (onward r) e c =
+  settled-hand (onward r) e c d =
       let o = step-onward (take (s .fill) w) (s .window) (s .start) (s .line .0) r e in
       let many : 4 ≤ length (lineEnds (s .start) (slice (s .start) (s .fill) w)) = rw (all-seen B s w t g few open′) (o .ended) in
-      (ap (λ (x : Five). x .start) (o .numbers), λ y. omega (arith, ap length (gathered-listed (s .fill) (lineEnds (s .start) (slice (s .start) (s .fill) w))), length-take 4 (lineEnds (s .start) (slice (s .start) (s .fill) w)), many))
-  settled-hand (unended r) e c =
+      (ap (λ (x : Five). x .start) (o .numbers), λ y. omega (arith, ap length (gathered-listed (s .fill) (lineEnds (s .start) (slice (s .start) (s .fill) w))), length-take 4 (lineEnds (s .start) (slice (s .start) (s .fill) w)), many), λ y. let z : _≡_ {A = ℕ} 0 1 = cc in absurd (omega arith))
+  settled-hand (unended r) e c d =
       let o = step-unended (take (s .fill) w) (s .window) (s .start) (s .line .0) r e in
-      (ap (λ (x : Five). x .start) (o .numbers), λ y. let z : _≡_ {A = ℕ} 0 1 = cc in absurd (omega arith))
-  settled-hand (closing a) e c = closing-hand _ (s .byte) a c
+      (ap (λ (x : Five). x .start) (o .numbers), λ y. let z : _≡_ {A = ℕ} 0 1 = cc in absurd (omega arith), λ y. (unended-over r e d, omega (arith, ap length (gathered-listed (s .fill) (lineEnds (s .start) (slice (s .start) (s .fill) w))), length-take 4 (lineEnds (s .start) (slice (s .start) (s .fill) w)), ap length (all-seen B s w t g few open′), o .three)))
+  settled-hand (closing a) e c d = closing-hand _ (s .byte) a c
 
   seeking-hand : Hand (seekingOf s w .state) (seekingOf s w .answer)
   seeking-hand =
       rw (seeking-is B s w t g few open′)
-      (go (settles (take (s .fill) w) (s .window) (s .start) (s .ended) (take 4 (lineEnds (s .start) (slice (s .start) (s .fill) w)))))
+      (go (settles (take (s .fill) w) (s .window) (s .start) (s .ended) (take 4 (lineEnds (s .start) (slice (s .start) (s .fill) w)))) refl)
     where
-      go : (b : Bool)
+      go : (b : Bool) → settles (take (s .fill) w) (s .window) (s .start) (s .ended) (take 4 (lineEnds (s .start) (slice (s .start) (s .fill) w))) ≡ b
           → Hand (nextWith s (gathered (s .fill) (lineEnds (s .start) (slice (s .start) (s .fill) w))) (decidedBy (take (s .fill) w) (s .window) (s .start) (s .line .0) (s .byte) (take 4 (lineEnds (s .start) (slice (s .start) (s .fill) w))) b) .state)
           (decidedBy (take (s .fill) w) (s .window) (s .start) (s .line .0) (s .byte) (take 4 (lineEnds (s .start) (slice (s .start) (s .fill) w))) b .answer)
-      go true =
+      go true d =
           rw (step-is B s w t g few open′)
-          (settled-hand (stepAt (take (s .fill) w) (s .window) (s .start) (s .line .0)) refl (step-closes (take (s .fill) w) (s .window) (s .start) (s .line .0)))
-      go false = tt
+          (settled-hand (stepAt (take (s .fill) w) (s .window) (s .start) (s .line .0)) refl (step-closes (take (s .fill) w) (s .window) (s .start) (s .line .0)) d)
+      go false d = tt
 
 pub next-hand : (B : List ℕ) (s : Reader) (w : List ℕ) (t : ℕ) → Good B s w t → Hand (nextOf s w .state) (nextOf s w .answer)
 unfolding nextOf

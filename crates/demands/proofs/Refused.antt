@@ -16,7 +16,7 @@ use Rattle.reader.specs.State.{mostBytes, own}
 use Rattle.reader.specs.Feed.{heldOf, takenOf, feedBy, feedOf, takingOf, finishBy, finishOf}
 use Rattle.reader.specs.Next.{nextOf}
 use Rattle.reader.proofs.Refusals.{next-refused}
-use Rattle.demands.specs.Runs.{Bench, Run}
+use Rattle.demands.specs.Runs.{Bench, Run, FeedIs, FinishIs}
 use Rattle.demands.proofs.Standing.{Good, good-owned}
 use Rattle.demands.proofs.Chunks.{Stands, calls-steps, steps-stand, opened-stands}
 
@@ -30,12 +30,6 @@ next-is-answered B W b r k e =
     let f = next-refused (b .reader) (b .window) k e .0 in
     let z : _≡_ {A = ℕ} 0 1 = cc in
     omega arith
-
--- what feed answers in a run, offered the input's next bytes: 4 exactly if the end is noted, 3 exactly if it is not and the state is not waiting
-pub record FeedIs (s : Reader) (w n : ℕ) : Type 0 where
-  pub ended : s .ended ≡ true → feedOf s w n .answer ≡ taken.Refused 4
-  pub unasked : s .ended ≡ false → s .waiting ≡ false → feedOf s w n .answer ≡ taken.Refused 3
-  pub taken : s .ended ≡ false → s .waiting ≡ true → feedOf s w n .answer ≡ taken.Took (takenOf s n)
 
 -- (over plain numbers)
 near-by : (t n c b x m : ℕ) → n ≤ c → c ≤ x → x ≡ b - t → t ≤ m → b ≤ m → t + n ≤ m
@@ -69,12 +63,6 @@ feed-refusals B W b r small chunk c =
 
     near : b .reader .byte .0 + heldOf (b .reader) + takenOf (b .reader) (length chunk) ≤ mostBytes
     near = rw reached (near-by (b .taken) (takenOf (b .reader) (length chunk)) (length chunk) (length B) (length (drop (b .taken) B)) mostBytes (omega arith) more (length-drop (b .taken) B) (g .holds .near) small)
-
--- what finish answers in a run
-pub record FinishIs (s : Reader) (w : ℕ) : Type 0 where
-  pub ended : s .ended ≡ true → finishOf s w .answer ≡ ending.Refused 4
-  pub unasked : s .ended ≡ false → s .waiting ≡ false → finishOf s w .answer ≡ ending.Refused 3
-  pub noted : s .ended ≡ false → s .waiting ≡ true → finishOf s w .answer ≡ ending.Noted
 
 -- FINISH is never refused in a run by 2.
 pub finish-refusals : (B : List ℕ) (W : ℕ) (b : Bench) → Run B W b → FinishIs (b .reader) (length (b .window))

@@ -7,7 +7,7 @@ use mathlib.Core.Path.{_≡_, refl, sym, ap, _∙_, subst}
 use mathlib.Core.Bool.{Bool, true, false}
 use mathlib.Core.Option.{Option, none, some}
 use mathlib.Core.List.{List, [], _∷_, _++_, map, append-assoc, append-nil}
-use lib.ListN.{length, take, drop, length-append, length-map}
+use lib.ListN.{length, take, drop, length-append, length-drop, length-map}
 use lib.Seq.{slice, slice-empty}
 use lib.Dec.{eqb}
 use Rattle.reading.specs.Bytes.{lineEnds}
@@ -32,6 +32,7 @@ use Rattle.reader.proofs.Owning.{notes-at}
 use Rattle.sets.specs.declared.Row.{Row}
 use Rattle.sets.specs.declared.Row.the-variants.{Of, No}
 use Rattle.sets.specs.declared.Listed.{Listed}
+use Rattle.sets.specs.declared.Reply.the-variants.{Count}
 use Rattle.sets.specs.Sets.{rowIn, Collected, collectedBy, collected, nextStart, placed as placedAt, afterOf, listedBy, listedOf, setBy, setOf, recordsOf}
 use Rattle.demands.specs.Runs.{heardOf, placed, addTo, Bench, fed, finished, asked, Call, Opened}
 use Rattle.demands.specs.Sets.{listedAs, heardBy, listing, Mixed, start, call, list, answers}
@@ -43,10 +44,11 @@ use Rattle.demands.proofs.Feeds.{feed-kept, finish-kept}
 
 -- ---- the state after a record
 
--- a reader that answered a record last: it has all four line ends noted, or is closed behind a record of at least four bytes
-pub record InHand (s : Reader) : Type 0 where
-  pub whole : s .closed ≡ false → 4 ≤ length (listed (s .noted))
-  pub long : s .start + 4 ≤ s .fill
+-- a reader that answered a record last: it has all four line ends noted, or is closed, with the end noted, behind a record with no final LF
+record InHand (s : Reader) : Type 0 where
+  whole : s .closed ≡ false → 4 ≤ length (listed (s .noted))
+  over : s .closed ≡ true → (s .ended ≡ true) × (length (listed (s .noted)) < 4)
+  long : s .start + 4 ≤ s .fill
 
 hand-of : (B : List ℕ) (s : Reader) (w : List ℕ) (t : ℕ) → Good B s w t → (r : Rec) → rowIn (nextOf s w .answer) ≡ Of r → InHand (nextOf s w .state)
 hand-of B s w t g r = go (nextOf s w .answer) (next-hand B s w t g) (next-viewed B s w t g)
@@ -54,7 +56,7 @@ hand-of B s w t g r = go (nextOf s w .answer) (next-hand B s w t g) (next-viewed
     go : (a : Answer) → Hand (nextOf s w .state) a → Viewed s w a → rowIn a ≡ Of r → InHand (nextOf s w .state)
     go (Record x b) h v e =
         let f = fits-facts (fiveOf x) (length w) (v .0) in
-        record { whole = h .1; long = omega (arith, f, h .0, v .1, next-fill s w) }
+        record { whole = h .1; over = h .2; long = omega (arith, f, h .0, v .1, next-fill s w) }
     go More h v e = let z : _≡_ {A = ℕ} 0 1 = cc in absurd (omega arith)
     go (WindowLimit L b) h v e = let z : _≡_ {A = ℕ} 0 1 = cc in absurd (omega arith)
     go (InvalidStart x L) h v e = let z : _≡_ {A = ℕ} 0 1 = cc in absurd (omega arith)
@@ -335,8 +337,7 @@ mixed-follows {B = B} {a = a} start g e = record { stands = g; tells = λ n. rw 
 mixed-follows {B = B} {a = a} (call {b = b} {c = c} x y) g e = let f = mixed-follows x g e in hears-follows B (a .reader) b c (call-hears y (f .stands)) f
 mixed-follows {B = B} {a = a} (list {b = b} x room wanted) g e = let f = mixed-follows x g e in hears-follows B (a .reader) b (listing b room wanted) (list-hears B b room wanted (f .stands)) f
 
--- RUNS THAT MIX NEXT AND SET CALLS hear the answers of the whole-file reading, records listed by a set among them. (The positions are the reading's too, but for
--- the Ends after a record with no final LF that a set listed: they keep line L + 4 and the input's length, and not that record's.)
+-- RUNS THAT MIX NEXT AND SET CALLS hear the answers of the whole-file reading, records listed by a set among them.
 pub mixed-answers-are-the-readings : (B : List ℕ) (W : ℕ) (a b : Bench) → Opened W a → Mixed B a b → answers (b .heard) ≡ answers (first (length (b .heard)) B W 0 1)
 mixed-answers-are-the-readings B W a b o x =
     let f = mixed-follows x (opened-stands B W a o) (o .silent) in
@@ -345,7 +346,62 @@ mixed-answers-are-the-readings B W a b o x =
     ∙ ap (λ (k : ℕ). answers (due k B (a .reader))) (add-zero (length (b .heard)))
     ∙ ap answers (opened-due B W a o (length (b .heard)))
 
--- AFTER A SET that lists a record and leaves the reading open, the position is where the reading goes on.
-pub set-position : (B : List ℕ) (s : Reader) (w : List ℕ) (t : ℕ) → Good B s w t → InHand s → s .closed ≡ false → (n : ℕ)
-    → due n B (afterOf s) ≡ first n B (s .window) (afterOf s .byte .0) (afterOf s .line .0)
-set-position B s w t g i c n = ap (λ (b : Bool). dueBy n B (afterOf s) b Zero) c
+-- ---- the position after a set call
+
+-- a set call that answers a count leaves the state behind the last record that it collected
+set-state : (s : Reader) (w : List ℕ) (room wanted k : ℕ) → setOf s w room wanted .answer ≡ Count k
+    → (0 < length (collected (min wanted room) s w .records)) × (setOf s w room wanted .state ≡ afterOf (collected (min wanted room) s w .state))
+unfolding setOf
+set-state s w room wanted k = go (own s (length w)) (eqb (min wanted room) 0)
+  where
+    by : (n : ℕ) → listedBy n (nextOf s w) (collected (min wanted room) s w .state) .answer ≡ Count k
+        → (0 < n) × (listedBy n (nextOf s w) (collected (min wanted room) s w .state) .state ≡ afterOf (collected (min wanted room) s w .state))
+    by zero e = let z : _≡_ {A = ℕ} 0 1 = cc in absurd (omega arith)
+    by (suc n) e = (omega arith, refl)
+
+    go : (x y : Bool) → setBy (min wanted room) s w x y .answer ≡ Count k
+        → (0 < length (collected (min wanted room) s w .records)) × (setBy (min wanted room) s w x y .state ≡ afterOf (collected (min wanted room) s w .state))
+    go false y e = let z : _≡_ {A = ℕ} 0 1 = cc in absurd (omega arith)
+    go true true e = let z : _≡_ {A = ℕ} 0 1 = cc in absurd (omega arith)
+    go true false e = by (length (collected (min wanted room) s w .records)) e
+
+-- where a record with no final LF was last, the next start is the fill point
+start-few : (fill : ℕ) (e : Noted) → length (listed e) < 4 → nextStart fill e ≡ fill
+start-few fill Zero h = refl
+start-few fill (One a) h = refl
+start-few fill (Two a b) h = refl
+start-few fill (Three a b c) h = refl
+start-few fill (Four a b c d) h = absurd (omega arith)
+
+-- what the position is after a set call that lists a record: where the reading goes on; or, behind a record with no final LF, the input's length, and the reading is closed
+pub record Follow (B : List ℕ) (s : Reader) : Type 0 where
+  pub goes-on : s .closed ≡ false → (n : ℕ) → due n B s ≡ first n B (s .window) (s .byte .0) (s .line .0)
+  pub at-the-end : s .closed ≡ true → s .byte .0 ≡ length B
+
+after-position : (B : List ℕ) (s : Reader) (w : List ℕ) (t : ℕ) → Good B s w t → InHand s → Follow B (afterOf s)
+after-position B s w t g i =
+    record {
+      goes-on = λ c n. ap (λ (b : Bool). dueBy n B (afterOf s) b Zero) c;
+      at-the-end = λ c.
+          let o = i .over c in
+          let h = g .holds in
+          let q = start-few (s .fill) (s .noted) (o .1) in
+          let e : s .byte .0 + (s .fill - s .start) ≡ length B = end-is (s .byte .0) (s .start) (s .fill) t (length B) (length (drop (s .byte .0 - s .start) B)) (h .startByte) (i .long) (h .reached) (h .atEnd (o .0)) (h .within) (length-drop (s .byte .0 - s .start) B) in
+          ap (λ (p : ℕ). s .byte .0 + (p - s .start)) q ∙ e;
+    }
+  where
+    -- (over plain numbers)
+    end-is : (b st f t n x : ℕ) → st ≤ b → st + 4 ≤ f → b - st + f ≡ t → n ≤ t → f ≤ x → x ≡ n - (b - st) → b + (f - st) ≡ n
+    end-is b st f t n x a l r e w y = omega arith
+
+-- THE POSITION AFTER A SET CALL that lists records is where the reading goes on; after one with no final LF it is the input's length.
+pub set-position : (B : List ℕ) (b : Bench) (room wanted k : ℕ) → Stands B b → setOf (b .reader) (b .window) room wanted .answer ≡ Count k
+    → Follow B (setOf (b .reader) (b .window) room wanted .state)
+set-position B b room wanted k g e =
+    let q = set-state (b .reader) (b .window) room wanted k e in
+    let d = gathered (min wanted room) B (b .reader) (b .window) (b .taken) g in
+    subst (λ (s : Reader). Follow B s) (sym (q .1)) (after-position B (collected (min wanted room) (b .reader) (b .window) .state) (b .window) (b .taken) (d .good) (d .hand (q .0)))
+
+-- a bench that next and set calls have brought somewhere stands for the reading
+pub mixed-stands : {B : List ℕ} {a b : Bench} → Mixed B a b → Stands B a → a .heard ≡ [] → Stands B b
+mixed-stands x g e = mixed-follows x g e .stands

@@ -1,6 +1,6 @@
 -- What a user's run is: a sequence of the public calls on one reader and one window, and the answers that it hears.
 -- Assumes nothing.
-use Prim.Native.Nat.{ℕ, _+_, _≤_}
+use Prim.Native.Nat.{ℕ, suc, _+_, _≤_, _<_}
 use mathlib.Core.Path.{_≡_}
 use mathlib.Core.Bool.{Bool, true, false}
 use mathlib.Core.Option.{Option, none, some}
@@ -8,6 +8,8 @@ use mathlib.Core.List.{List, [], _∷_, _++_}
 use lib.ListN.{length, take, drop}
 use Rattle.reading.specs.Answer.{Id, absent, range, found, windowLimit, invalidStart, invalidSeparator, unequalLengths, unexpectedEnd, ended, Told, told}
 use Rattle.reading.specs.Answer as read
+use Rattle.reading.specs.Reading.{first as firstAnswers, reading}
+use Rattle.reading.specs.Lists.{kept, SameOrOn}
 use Rattle.reading.specs.Shift.{shiftFive, shiftId}
 use Rattle.record.specs.declared.Range.{Range}
 use Rattle.record.specs.declared.Range.the-variants.{Absent, Bytes}
@@ -16,13 +18,14 @@ use Rattle.reader.specs.declared.Reader.{Reader}
 use Rattle.reader.specs.declared.Opened.the-variants.{Fresh}
 use Rattle.reader.specs.declared.Taken.{Taken}
 use Rattle.reader.specs.declared.Taken.the-variants as taken
+use Rattle.reader.specs.declared.Ending.the-variants as ending
 use Rattle.reader.specs.declared.Position.{Position}
 use Rattle.reader.specs.declared.Place.{Place}
 use Rattle.reader.specs.declared.Place.the-variants as place
 use Rattle.reader.specs.declared.Answer.{Answer}
 use Rattle.reader.specs.declared.Answer.the-variants.{Record, More, WindowLimit, InvalidStart, InvalidSeparator, UnequalLengths, UnexpectedEnd, End, Refused}
 use Rattle.reader.specs.State.{openOf, positionOf}
-use Rattle.reader.specs.Feed.{feedOf, fedWindow, finishOf}
+use Rattle.reader.specs.Feed.{takenOf, feedOf, fedWindow, finishOf}
 use Rattle.reader.specs.Next.{nextOf}
 use Rattle.reader.specs.Seek.{base, seekOf}
 
@@ -116,6 +119,40 @@ pub data Benches (B : List ℕ) (a₀ b₀ : Bench) : Bench → Bench → Type 0
   both : Benches B a₀ b₀ a₀ b₀
   first : {a b c : Bench} → Benches B a₀ b₀ a b → Call B a c → Benches B a₀ b₀ c b
   second : {a b c : Bench} → Benches B a₀ b₀ a b → Call B b c → Benches B a₀ b₀ a c
+
+-- what two benches hear
+pub record Agree (B : List ℕ) (W U : ℕ) (a b : Bench) : Type 0 where
+  -- each hears the answers of its own window's reading
+  pub first-reads : a .heard ≡ firstAnswers (length (a .heard)) B W 0 1
+  pub second-reads : b .heard ≡ firstAnswers (length (b .heard)) B U 0 1
+  -- and as long as the one with the smaller window has heard no window limit, both have heard the same
+  pub agree : (n : ℕ) → n ≤ length (a .heard) → n ≤ length (b .heard) → kept (take n (a .heard)) ≡ take n (a .heard) → take n (a .heard) ≡ take n (b .heard)
+  -- their whole readings are equal, or the smaller one's closes with a window limit where the larger one's goes on
+  pub wholly : SameOrOn (reading B W 0 1) (reading B U 0 1)
+
+-- ---- refusals in a run
+
+-- what feed answers in a run, offered the input's next bytes: 4 exactly if the end is noted, 3 exactly if it is not and the state is not waiting
+pub record FeedIs (s : Reader) (w n : ℕ) : Type 0 where
+  pub ended : s .ended ≡ true → feedOf s w n .answer ≡ taken.Refused 4
+  pub unasked : s .ended ≡ false → s .waiting ≡ false → feedOf s w n .answer ≡ taken.Refused 3
+  pub taken : s .ended ≡ false → s .waiting ≡ true → feedOf s w n .answer ≡ taken.Took (takenOf s n)
+
+-- what finish answers in a run
+pub record FinishIs (s : Reader) (w : ℕ) : Type 0 where
+  pub ended : s .ended ≡ true → finishOf s w .answer ≡ ending.Refused 4
+  pub unasked : s .ended ≡ false → s .waiting ≡ false → finishOf s w .answer ≡ ending.Refused 3
+  pub noted : s .ended ≡ false → s .waiting ≡ true → finishOf s w .answer ≡ ending.Noted
+
+-- ---- requests
+
+-- calls that answer each request straight away: by a nonempty chunk of the input's next bytes, or, when all is taken, by announcing the end; k requests so far
+pub data Attended (B : List ℕ) (a : Bench) : Bench → ℕ → Type 0 where
+  begins : Attended B a a 0
+  hears : {b : Bench} {k : ℕ} → Attended B a b k → (nextOf (b .reader) (b .window) .answer ≡ More → ⊥) → Attended B a (asked b) k
+  serves : {b : Bench} {k : ℕ} → Attended B a b k → nextOf (b .reader) (b .window) .answer ≡ More → (chunk : List ℕ) → 0 < length chunk
+      → chunk ≡ take (length chunk) (drop (b .taken) B) → Attended B a (fed (asked b) chunk) (suc k)
+  closes : {b : Bench} {k : ℕ} → Attended B a b k → nextOf (b .reader) (b .window) .answer ≡ More → length B ≤ b .taken → Attended B a (finished (asked b)) (suc k)
 
 -- ---- seeks
 

@@ -2,6 +2,7 @@
 -- Assumes nothing.
 use Prim.Native.Nat.{ℕ, zero, suc, _+_, _-_, _/_, min}
 use mathlib.Core.Bool.{Bool, true, false}
+use mathlib.Core.Option.{Option, none, some}
 use mathlib.Core.List.{List, [], _∷_, _++_}
 use lib.ListN.{length, drop}
 use lib.Dec.{eqb}
@@ -14,6 +15,7 @@ use Rattle.reader.specs.declared.Answer.the-variants.{Record as aRecord, More, 
 use Rattle.reader.specs.declared.Next.{Next}
 use Rattle.reader.specs.State.{stateOf, own}
 use Rattle.reader.specs.Next.{nextOf}
+use Rattle.reader.specs.Numbers.{nextNumber}
 use Rattle.sets.specs.declared.Row.{Row}
 use Rattle.sets.specs.declared.Row.the-variants.{Of, No}
 use Rattle.sets.specs.declared.Reply.{Reply}
@@ -65,6 +67,12 @@ afterOf s = placed s (nextStart (s .fill) (s .noted))
 abbrev pub listed : Reader → Reply → Listed
 listed s a = record { state = s; answer = a }
 
+-- document 01's number of what a set call answers: 2 or 6, or that of next's answer; a count has none
+abbrev pub setNumber : Reply → Option ℕ
+setNumber (reply.Count k) = none
+setNumber (reply.Other a) = nextNumber a
+setNumber (reply.Refused k) = some k
+
 -- by the count of listed records: with none, answer and state are next's
 abbrev pub listedBy : ℕ → Next → Reader → Listed
 listedBy zero x t = listed (x .state) (reply.Other (x .answer))
@@ -75,7 +83,7 @@ listedOf n s w = listedBy (length (collected n s w .records)) (nextOf s w) (coll
 
 -- by the tests: the state is own; no record is wanted or the table has no room for one
 abbrev pub setBy : ℕ → Reader → List ℕ → Bool → Bool → Listed
-setBy n s w false none = listed s (reply.Refused 2)
+setBy n s w false empty = listed s (reply.Refused 2)
 setBy n s w true true = listed s (reply.Refused 6)
 setBy n s w true false = listedOf n s w
 

@@ -16,6 +16,11 @@ abbrev pub written : Written → ℕ
 written (Wrote n) = n
 written (Refused k) = 0
 
+-- document 01's number of what a writer answers: 13 or 14, or 12
+abbrev pub writeNumber : Written → Option ℕ
+writeNumber (Wrote n) = none
+writeNumber (Refused k) = some k
+
 -- the output has n bytes of room from the place on, which isn't past its end
 abbrev pub hasRoom : List ℕ → ℕ → ℕ → Bool
 hasRoom out at n = leb (at + n) (length out)

@@ -1,0 +1,76 @@
+-- `drive` ends: the measure is the number of turns that are left. The window, the chunk and the output keep their lengths.
+-- Assumes nothing.
+use mathlib.Core.Path.{_≡_}
+use lib.ListN.{length}
+use borrow.Author.Needs.{needs}
+use Rattle.positions.proofs.driver.drive.Statement.{statement}
+use Rattle.positions.proofs.driver.drive.Tie as tie
+
+abbrev Inv-loop : tie.InvT-loop
+Inv-loop window₀ chunk₀ out₀ run₀ turns₀ window chunk out run turns = (length window ≡ length window₀) × (length chunk ≡ length chunk₀) × (length out ≡ length out₀)
+
+abbrev μ-loop : tie.MeasureT-loop
+μ-loop window₀ chunk₀ out₀ run₀ turns₀ window chunk out run turns = turns
+
+with-no-chunk-requires : tie.Need-with-no-chunk-requires Inv-loop μ-loop
+with-no-chunk-requires c κs = search needs
+
+loop-holds : tie.Need-loop-holds Inv-loop μ-loop
+loop-holds c = search needs
+
+same-length : tie.Need-same-length Inv-loop μ-loop
+same-length c = search needs
+
+same-length-2 : tie.Need-same-length-2 Inv-loop μ-loop
+same-length-2 c = search needs
+
+same-length-3 : tie.Need-same-length-3 Inv-loop μ-loop
+same-length-3 c = search needs
+
+returns : tie.Need-returns Inv-loop μ-loop
+returns c = search needs
+
+turn-requires : tie.Need-turn-requires Inv-loop μ-loop
+turn-requires c κs = search needs
+
+sub-turns : tie.Need-sub-turns Inv-loop μ-loop
+sub-turns c = search needs
+
+loop-less : tie.Need-loop-less Inv-loop μ-loop
+loop-less c = search needs
+
+loop-again : tie.Need-loop-again Inv-loop μ-loop
+loop-again c = search needs
+
+same-length-4 : tie.Need-same-length-4 Inv-loop μ-loop
+same-length-4 c = search needs
+
+same-length-5 : tie.Need-same-length-5 Inv-loop μ-loop
+same-length-5 c = search needs
+
+same-length-6 : tie.Need-same-length-6 Inv-loop μ-loop
+same-length-6 c = search needs
+
+returns-2 : tie.Need-returns-2 Inv-loop μ-loop
+returns-2 c = search needs
+
+pub drive-spec : {M : Type 1} → statement M
+drive-spec =
+    tie.close
+    (tie.spec
+    Inv-loop
+    μ-loop
+    with-no-chunk-requires
+    loop-holds
+    same-length
+    same-length-2
+    same-length-3
+    returns
+    turn-requires
+    sub-turns
+    loop-less
+    loop-again
+    same-length-4
+    same-length-5
+    same-length-6
+    returns-2)

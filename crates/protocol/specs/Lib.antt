@@ -1,0 +1,3 @@
+pub mod Tallies
+pub mod Turns
+pub mod Outcome
