@@ -1,0 +1,4 @@
+mod Calling
+mod Writing
+mod Showing
+mod Packing

@@ -1,0 +1,5 @@
+pub mod Packed
+pub mod Told
+pub mod Calls
+pub mod Writes
+pub mod Shown
