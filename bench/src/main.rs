@@ -1,7 +1,8 @@
 //! Counts the records of an input in memory, by the proved library and by the Rust it was ported from, round robin in one process:
-//! `bench [MiB [rounds]]`. The figures are ratios of times in one round; docs/SPEED.md has method and figures.
+//! `bench [MiB [rounds]]`; `bench --write [MiB]` writes the input to standard output instead. The figures are ratios of times in one round; docs/SPEED.md has method and figures.
 
 use seq_io::fastq::Reader;
+use std::io::Write;
 use std::time::Instant;
 
 const WINDOW: usize = 65_536;
@@ -58,6 +59,11 @@ fn main() {
     let number = |i: usize, usual: usize| {
         std::env::args().nth(i).map_or(usual, |s| s.parse().expect("bench [MiB [rounds]], both numbers"))
     };
+    if std::env::args().nth(1).as_deref() == Some("--write") {
+        let input = records(number(2, 400) << 20);
+        std::io::stdout().write_all(&input).expect("standard output takes the records");
+        return;
+    }
     let mib = number(1, 400);
     let rounds = number(2, 15);
     let input = records(mib << 20);

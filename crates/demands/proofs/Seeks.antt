@@ -94,17 +94,24 @@ seek-placed B b p g = rw (good-owned B (b .reader) (b .window) (b .taken) g) (go
         moved-placed B (b .reader) (b .window) (b .taken) p g (leb-true (p .line .0) mostBytes (k .0)) (leb-true (p .byte .0) mostBytes (k .1)) (isHeld (b .reader) (p .byte .0)) refl
     go false e f = let z : _≡_ {A = ℕ} 0 1 = cc in absurd (omega arith)
 
+-- a seek that is not refused leaves a reader that stands for the reading
+pub seek-stands : (B : List ℕ) (b : Bench) (p : Position) → Stands B b → isRefused (seekOf (b .reader) (length (b .window)) p .answer) ≡ false → Stands B (sought b p)
+seek-stands B b p g e = seek-placed B b p g e .good
+
+-- and the answers are those from there
+pub seek-from : (B : List ℕ) (b c : Bench) (p : Position) → Stands B b → isRefused (seekOf (b .reader) (length (b .window)) p .answer) ≡ false → Calls B (sought b p) c
+    → c .heard ≡ first (length (c .heard)) B (b .reader .window) (p .byte .0) (p .line .0)
+seek-from B b c p g e y = let v = seek-placed B b p g e in heard-due (calls-steps y) (v .good) refl ∙ v .due-there (length (c .heard))
+
 -- wherever a reader has roamed, it stands for the reading
 pub roams-stand : {B : List ℕ} {a b : Bench} → Roams B a b → Stands B a → Stands B b
 roams-stand stays g = g
 roams-stand (calls x c) g = step-stands (call-step c) (roams-stand x g)
-roams-stand {B = B} (seeks {b = b} x p e) g = seek-placed B b p (roams-stand x g) e .good
+roams-stand {B = B} (seeks {b = b} x p e) g = seek-stands B b p (roams-stand x g) e
 
 -- SEEK. "A seek also reopens a closed reading. Afterwards, if the same input's bytes are fed, answers are the whole-file reading from that p and L":
 -- from any place that calls and seeks have led a reader to, closed or not, after a seek that is not refused.
 pub seek-reads : (B : List ℕ) (W : ℕ) (a b c : Bench) (p : Position) → Opened W a → Roams B a b
     → isRefused (seekOf (b .reader) (length (b .window)) p .answer) ≡ false → Calls B (sought b p) c
     → c .heard ≡ first (length (c .heard)) B (b .reader .window) (p .byte .0) (p .line .0)
-seek-reads B W a b c p o x e y =
-    let v = seek-placed B b p (roams-stand x (opened-stands B W a o)) e in
-    heard-due (calls-steps y) (v .good) refl ∙ v .due-there (length (c .heard))
+seek-reads B W a b c p o x e y = seek-from B b c p (roams-stand x (opened-stands B W a o)) e y

@@ -27,19 +27,21 @@ use Rattle.reader.specs.declared.Answer.{Answer}
 use Rattle.reader.specs.declared.Answer.the-variants.{Record, More, WindowLimit, InvalidStart, InvalidSeparator, UnequalLengths, UnexpectedEnd, End, Refused}
 use Rattle.reader.specs.State.{mostBytes, own, Notes}
 use Rattle.reader.specs.Next.{nextOf}
-use Rattle.reader.specs.Seek.{base}
+use Rattle.reader.specs.declared.Position.{Position}
+use Rattle.reader.specs.Seek.{base, seekOf}
 use Rattle.reader.proofs.Owning.{notes-at}
 use Rattle.sets.specs.declared.Row.{Row}
 use Rattle.sets.specs.declared.Row.the-variants.{Of, No}
 use Rattle.sets.specs.declared.Listed.{Listed}
 use Rattle.sets.specs.declared.Reply.the-variants.{Count}
 use Rattle.sets.specs.Sets.{rowIn, Collected, collectedBy, collected, nextStart, placed as placedAt, afterOf, listedBy, listedOf, setBy, setOf, recordsOf}
-use Rattle.demands.specs.Runs.{heardOf, placed, addTo, Bench, fed, finished, asked, Call, Opened}
-use Rattle.demands.specs.Sets.{listedAs, heardBy, listing, Mixed, start, call, list, answers}
+use Rattle.demands.specs.Runs.{heardOf, placed, addTo, Bench, fed, finished, asked, Call, Calls, Opened, isRefused, sought}
+use Rattle.demands.specs.Sets.{listedAs, heardBy, listing, Mixed, start, call, list, Wanders, rests, calls, lists, moves, answers}
 use Rattle.demands.proofs.Standing.{Holds, Good, dueBy, due, due-zero}
 use Rattle.demands.proofs.Nexts.{Gives, Served, next-served, Hand, next-hand}
 use Rattle.demands.proofs.Fields.{Viewed, next-viewed, next-fill}
-use Rattle.demands.proofs.Chunks.{Step, feeds, finishes, asks, call-step, Stands, opened-stands, opened-due}
+use Rattle.demands.proofs.Chunks.{Step, feeds, finishes, asks, call-step, step-stands, Stands, opened-stands, opened-due}
+use Rattle.demands.proofs.Seeks.{seek-stands, seek-from}
 use Rattle.demands.proofs.Feeds.{feed-kept, finish-kept}
 
 -- ---- the state after a record
@@ -405,3 +407,16 @@ set-position B b room wanted k g e =
 -- a bench that next and set calls have brought somewhere stands for the reading
 pub mixed-stands : {B : List ℕ} {a b : Bench} → Mixed B a b → Stands B a → a .heard ≡ [] → Stands B b
 mixed-stands x g e = mixed-follows x g e .stands
+
+-- and so does one that calls, set calls and seeks have led anywhere
+wanders-stand : {B : List ℕ} {a b : Bench} → Wanders B a b → Stands B a → Stands B b
+wanders-stand rests g = g
+wanders-stand (calls x c) g = step-stands (call-step c) (wanders-stand x g)
+wanders-stand {B = B} (lists {b = b} x room wanted) g = list-hears B b room wanted (wanders-stand x g) .stands
+wanders-stand {B = B} (moves {b = b} x p e) g = seek-stands B b p (wanders-stand x g) e
+
+-- SEEK, where set calls are mixed in: after a seek that is not refused the answers are the whole-file reading from that line and byte.
+pub seek-reads-anywhere : (B : List ℕ) (W : ℕ) (a b c : Bench) (p : Position) → Opened W a → Wanders B a b
+    → isRefused (seekOf (b .reader) (length (b .window)) p .answer) ≡ false → Calls B (sought b p) c
+    → c .heard ≡ first (length (c .heard)) B (b .reader .window) (p .byte .0) (p .line .0)
+seek-reads-anywhere B W a b c p o x e y = seek-from B b c p (wanders-stand x (opened-stands B W a o)) e y

@@ -1,6 +1,8 @@
 -- Runs that mix next and set calls.
 -- Assumes nothing.
 use Prim.Native.Nat.{ℕ, _+_, _-_, _*_}
+use mathlib.Core.Path.{_≡_}
+use mathlib.Core.Bool.{false}
 use mathlib.Core.List.{List, [], _∷_, _++_, map}
 use lib.ListN.{length}
 use Rattle.reading.specs.Answer.{found, Told, told}
@@ -9,11 +11,12 @@ use Rattle.reading.specs.Shift.{shiftFive}
 use Rattle.record.specs.declared.Record.{Record}
 use Rattle.record.specs.Check.{fiveOf}
 use Rattle.reader.specs.declared.Reader.{Reader}
-use Rattle.reader.specs.Seek.{base}
+use Rattle.reader.specs.declared.Position.{Position}
+use Rattle.reader.specs.Seek.{base, seekOf}
 use Rattle.sets.specs.declared.Reply.{Reply}
 use Rattle.sets.specs.declared.Reply.the-variants.{Count, Other, Refused}
 use Rattle.sets.specs.Sets.{setOf, recordsOf}
-use Rattle.demands.specs.Runs.{heardOf, addTo, Bench, Call, Opened}
+use Rattle.demands.specs.Runs.{heardOf, addTo, Bench, Call, isRefused, sought}
 
 -- the records that a set call listed, as answers in absolute offsets: the first at line L; k is the absolute offset of the window's first byte
 unfoldable pub listedAs : ℕ → ℕ → List Record → List Told
@@ -42,6 +45,13 @@ pub data Mixed (B : List ℕ) (a : Bench) : Bench → Type 0 where
   start : Mixed B a a
   call : {b c : Bench} → Mixed B a b → Call B b c → Mixed B a c
   list : {b : Bench} → Mixed B a b → (room wanted : ℕ) → Mixed B a (listing b room wanted)
+
+-- and seeks among them that are not refused
+pub data Wanders (B : List ℕ) (a : Bench) : Bench → Type 0 where
+  rests : Wanders B a a
+  calls : {b c : Bench} → Wanders B a b → Call B b c → Wanders B a c
+  lists : {b : Bench} → Wanders B a b → (room wanted : ℕ) → Wanders B a (listing b room wanted)
+  moves : {b : Bench} → Wanders B a b → (p : Position) → isRefused (seekOf (b .reader) (length (b .window)) p .answer) ≡ false → Wanders B a (sought b p)
 
 -- the answers without their positions
 abbrev pub answers : List Told → List read.Answer
