@@ -2,3 +2,4 @@ mod Calling
 mod Writing
 mod Showing
 mod Packing
+mod Refused
