@@ -21,5 +21,6 @@ if [ ! -x "$program" ] || [ -n "$(find crates crates.txt -newer "$program" -prin
         cat target/positions.log >&2
         exit 1
     }
+    touch "$program" # where nothing changed, rt leaves it as it was
 fi
 exec "$program" "$@"
