@@ -15,7 +15,7 @@ import sys
 WORD = re.compile(r"[A-Za-z_][A-Za-z0-9_']*(?:-[A-Za-z0-9_']+)*")
 HEAD = re.compile(r"^(?:(?:pub|abbrev|unfoldable|data|record|ruleset)\s+)*([A-Za-z][A-Za-z0-9_'-]*)(?:\s+[({][^)}]*[)}])*\s*:\s")
 INNER = re.compile(r"^\s+(?:pub\s+)?([A-Za-z][A-Za-z0-9_'-]*)(?:\s+\([^)]*\))*\s*:\s")
-OTHERS = {"getD-later": "get_or_later", "closes_well": "ClosesWell", "closesWell": "ClosesWell", "Space": "SPACE", "Plus": "PLUS", "Zero": "ZERO", "Tab": "TAB"}
+OTHERS = {"getD-later": "get_or_later", "closes_well": "ClosesWell", "closesWell": "ClosesWell", "Space": "SPACE", "Plus": "PLUS", "Tab": "TAB"}
 JOINED = {"append", "length", "shift", "take", "drop", "map", "cons", "slice"}
 STD = {"map", "take", "drop", "slice", "length", "append", "set"}
 # What the toolchain's script had respelled already in .rt and .antt files, and in no other: spelled so there too.
@@ -134,6 +134,8 @@ def main():
             new = change(old)
         if f.endswith("reading/specs/Bytes.antt") or re.search(r"use Rattle\.reading\.specs\.Bytes\.\{[^}]*\bAt\b", new):
             new = re.sub(r"\bAt\b", "AT", new)
+        if f.startswith("crates/text/"):
+            new = re.sub(r"\bZero\b", "ZERO", new)
         if new != old:
             count += 1
             with open(f, "w", encoding="utf-8") as it:

@@ -1,5 +1,7 @@
 // The line of text for each answer of a reader, and for its position. Offsets in a line are absolute.
 // Each function takes any state, answer, output and place; a line that does not fit is refused with 12, and nothing is written.
+#![tactic(auto)]
+
 ghost use Rattle.std.specs.Prelude.{◌≡◌, ◌≤◌, [], ◌∷◌, ◌++◌, take};
 ghost use Rattle.std.proofs.Math.Option.{none};
 ghost use Rattle.reading.specs.Marked.{bytes};

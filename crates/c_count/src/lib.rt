@@ -1,5 +1,7 @@
 // The count of a whole input's records, for C and Rust: what the benchmark calls.
 // In C: uint64_t fq_count(const uint8_t *input, size_t input_length, uint8_t *window, size_t window_length, size_t chunk);
+#![tactic(auto)]
+
 ghost use Rattle.std.specs.Prelude.{◌≡◌, length};
 ghost use Rattle.protocol.specs.Outcome.{outcome};
 ghost use Rattle.c_count.specs.Numbers.{number_in, WindowIs};

@@ -11,7 +11,7 @@ use lib.Seq.{sets, sets-eq, drop-cons}
 use lib.Dec.{eqb, ltb}
 use borrow.Author.Tests.{le-ltb, eqb-true, ltb-false}
 use Rattle.record.specs.declared.Noted.{Noted}
-use Rattle.record.specs.declared.Noted.TheVariants.{ZERO, One, Two, Three, Four}
+use Rattle.record.specs.declared.Noted.TheVariants.{Zero, One, Two, Three, Four}
 use Rattle.reader.specs.declared.Reader.{Reader}
 use Rattle.reader.specs.State.{state_of}
 use Rattle.c_interface.specs.declared.Told.{Told}
@@ -25,7 +25,7 @@ use Rattle.c_interface.proofs.Calling.{unpacked_room}
 
 notes_back : (e : Noted) → notes_in (places_of e).count (places_of e).a (places_of e).b (places_of e).c (places_of e).d ≡ Of e
 unfolding notes_in
-notes_back ZERO = refl
+notes_back Zero = refl
 notes_back (One a) = refl
 notes_back (Two a b) = refl
 notes_back (Three a b c) = refl
@@ -68,7 +68,7 @@ notes_lent k a b c d e f =
         → notes_by t0 t1 t2 t3 t4 a b c d ≡ Of e → places_of e ≡ places k a b c d
     go true p0 t1 p1 t2 p2 t3 p3 t4 p4 f =
         let u = both _ _ p0 in let x = both _ _ u.0 in let y = both _ _ x.0 in let z = both _ _ y.0 in
-        let q : e ≡ ZERO = cc in
+        let q : e ≡ Zero = cc in
         rw (q, eqb-true k 0 z.0, eqb-true a 0 z.1, eqb-true b 0 y.1, eqb-true c 0 x.1, eqb-true d 0 u.1)
     go false p0 true p1 t2 p2 t3 p3 t4 p4 f =
         let u = both _ _ p1 in let x = both _ _ u.0 in let y = both _ _ x.0 in

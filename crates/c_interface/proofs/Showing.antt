@@ -9,7 +9,7 @@ use native.Mathlib.Omega.{arith}
 use lib.ListN.{length, take, drop, length-take, length-drop}
 use lib.Seq.{sets, slice}
 use lib.Dec.{ltb, eqb}
-use borrow.Author.Tests.{lt-ltb, le-ltb, ltb-true, not-true, not-false}
+use borrow.Author.Tests.{lt-ltb, le-ltb, ltb-true}
 use Rattle.reading.specs.Answer.{Five}
 use Rattle.reading.specs.Bytes.{byte_at, trim_cr, id_length, CR}
 use Rattle.reading.specs.Reading.{head_of, desc_in}
@@ -25,21 +25,21 @@ pub shown_told : (x : View) {t : Told} {a : ℕ} {s : List ℕ} → t ≡ briefl
 shown_told x p q r = p ∙ rw (q, r)
 
 module _ (w : List ℕ) (r : Five) {t : Bool} (asked : t ≡ view_test r (length w)) where
-  pub placed_none : (n : ℕ) → not t ≡ true → 0 ≡ placed w r n
+  pub placed_none : (n : ℕ) → t ≡ false → 0 ≡ placed w r n
   unfolding placed
-  placed_none n h = rw (sym asked ∙ not-true _ h)
+  placed_none n h = rw (sym asked ∙ h)
 
-  pub placed_some : (n : ℕ) → not t ≡ false → n ≡ placed w r n
+  pub placed_some : (n : ℕ) → t ≡ true → n ≡ placed w r n
   unfolding placed
-  placed_some n h = rw (sym asked ∙ not-false _ h)
+  placed_some n h = rw (sym asked ∙ h)
 
-  pub head_none : not t ≡ true → 0 ≡ (head_view w r).from
+  pub head_none : t ≡ false → 0 ≡ (head_view w r).from
   unfolding head_view
-  head_none h = rw (sym asked ∙ not-true _ h)
+  head_none h = rw (sym asked ∙ h)
 
-  pub head_some : not t ≡ false → r.start + 1 ≡ (head_view w r).from
+  pub head_some : t ≡ true → r.start + 1 ≡ (head_view w r).from
   unfolding head_view
-  head_some h = rw (sym asked ∙ not-false _ h)
+  head_some h = rw (sym asked ∙ h)
 
 module _ (w : List ℕ) (r : Five) where
   pub seq_from : placed w r r.seq ≡ (seq_view w r).from
@@ -85,26 +85,26 @@ head_inside w r = go (view_test r (length w)) refl
         omega arith
 
 module _ (w : List ℕ) (r : Five) {t : Bool} (asked : t ≡ has_desc w r) where
-  pub desc_none : not t ≡ true → 0 ≡ (desc_view w r).from
+  pub desc_none : t ≡ false → 0 ≡ (desc_view w r).from
   unfolding has_desc desc_view
-  desc_none h = go (desc_in (head_view w r).bytes) (sym asked ∙ not-true _ h)
+  desc_none h = go (desc_in (head_view w r).bytes) (sym asked ∙ h)
     where
       go : (d : Option (List ℕ)) → present d ≡ false → 0 ≡ (desc_by ((head_view w r).from + (id_length (head_view w r).bytes + 1)) d).from
       go none e = refl
       go (some d) e = let z : ◌≡◌ {A = ℕ} 0 1 = cc in omega arith
 
-  pub desc_some : not t ≡ false → (head_view w r).from + (id_length (head_view w r).bytes + 1) ≡ (desc_view w r).from
+  pub desc_some : t ≡ true → (head_view w r).from + (id_length (head_view w r).bytes + 1) ≡ (desc_view w r).from
   unfolding has_desc desc_view
-  desc_some h = go (desc_in (head_view w r).bytes) (sym asked ∙ not-false _ h)
+  desc_some h = go (desc_in (head_view w r).bytes) (sym asked ∙ h)
     where
       go : (d : Option (List ℕ)) → present d ≡ true → (head_view w r).from + (id_length (head_view w r).bytes + 1) ≡ (desc_by ((head_view w r).from + (id_length (head_view w r).bytes + 1)) d).from
       go none e = let z : ◌≡◌ {A = ℕ} 0 1 = cc in omega arith
       go (some d) e = refl
 
   -- a description starts in the window, or at its end
-  pub desc_inside : not t ≡ false → (head_view w r).from + (id_length (head_view w r).bytes + 1) ≤ length w
+  pub desc_inside : t ≡ true → (head_view w r).from + (id_length (head_view w r).bytes + 1) ≤ length w
   unfolding has_desc
-  desc_inside h = go (ltb (id_length (head_view w r).bytes) (length (head_view w r).bytes)) refl (sym asked ∙ not-false _ h)
+  desc_inside h = go (ltb (id_length (head_view w r).bytes) (length (head_view w r).bytes)) refl (sym asked ∙ h)
     where
       go : (u : Bool) → ltb (id_length (head_view w r).bytes) (length (head_view w r).bytes) ≡ u
           → present (cond u (some (drop (id_length (head_view w r).bytes + 1) (head_view w r).bytes)) none) ≡ true

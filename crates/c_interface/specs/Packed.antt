@@ -2,7 +2,7 @@
 -- Assumes nothing.
 use Rattle.std.specs.Prelude.{ℕ, Bool, true, false, ◌&&◌, ◌||◌, List, [], ◌∷◌, length, get_or, eqb, ltb}
 use Rattle.record.specs.declared.Noted.{Noted}
-use Rattle.record.specs.declared.Noted.TheVariants.{ZERO, One, Two, Three, Four}
+use Rattle.record.specs.declared.Noted.TheVariants.{Zero, One, Two, Three, Four}
 use Rattle.reader.specs.declared.Reader.{Reader}
 use Rattle.reader.specs.State.{state_of}
 use Rattle.c_interface.specs.declared.Notes.{Notes}
@@ -16,7 +16,7 @@ places k a b c d = record { count = k; a = a; b = b; c = c; d = d }
 
 -- how many line ends are noted, and where; the places that are not noted are 0
 abbrev pub places_of : Noted → Places
-places_of ZERO = places 0 0 0 0 0
+places_of Zero = places 0 0 0 0 0
 places_of (One a) = places 1 a 0 0 0
 places_of (Two a b) = places 2 a b 0 0
 places_of (Three a b c) = places 3 a b c 0
@@ -50,7 +50,7 @@ numbers_of s = numbers_with s (places_of s.noted)
 
 -- by the tests: there are none, one, two, three or four notes, and the places that are not noted are 0
 abbrev pub notes_by : Bool → Bool → Bool → Bool → Bool → ℕ → ℕ → ℕ → ℕ → Notes
-notes_by true one two three four a b c d = Of ZERO
+notes_by true one two three four a b c d = Of Zero
 notes_by false true two three four a b c d = Of (One a)
 notes_by false false true three four a b c d = Of (Two a b)
 notes_by false false false true four a b c d = Of (Three a b c)

@@ -1,5 +1,7 @@
 // The library for C and Rust: its calls on numbers and slices, each under a plain name.
 // A state is lent as 14 numbers, what a call answers as a code and 6 numbers; c_interface.h has their order.
+#![tactic(auto)]
+
 mod views;
 mod writes;
 
@@ -31,21 +33,21 @@ pub const FEED_FROM: usize = 17;
 pub const ABSENT: usize = 18;
 
 // What numbers say of notes, or that they are no notes.
-#[derive(Drop)]
+#[derive(Clone, Copy)]
 pub enum Notes {
     Of(Noted),
     No,
 }
 
 // The state that numbers are, or that they are none.
-#[derive(Drop)]
+#[derive(Clone, Copy)]
 pub enum Unpacked {
     State(Reader),
     Foreign,
 }
 
 // A code, and the values beside it in document 01's order; those that it does not have are 0.
-#[derive(Drop)]
+#[derive(Clone, Copy)]
 pub struct Told {
     pub code: usize,
     pub a: usize,
@@ -57,7 +59,7 @@ pub struct Told {
 }
 
 // A range's values: whether there is one, and where it starts and ends.
-#[derive(Drop)]
+#[derive(Clone, Copy)]
 pub struct Bounds {
     pub given: usize,
     pub from: usize,
@@ -161,7 +163,7 @@ fn unpack(state: &[usize], values: usize) -> Unpacked
 }
 
 // The places of notes, as many as there are.
-#[derive(Drop)]
+#[derive(Clone, Copy)]
 pub struct Places {
     pub count: usize,
     pub a: usize,

@@ -11,7 +11,7 @@ use lib.Dec.{leb}
 use Rattle.reading.specs.Reading.{first}
 use Rattle.reading.proofs.Shifted.{drop-take}
 use Rattle.record.specs.declared.Noted.{Noted}
-use Rattle.record.specs.declared.Noted.TheVariants.{ZERO, One, Two, Three, Four}
+use Rattle.record.specs.declared.Noted.TheVariants.{Zero, One, Two, Three, Four}
 use Rattle.reader.specs.declared.Reader.{Reader}
 use Rattle.reader.specs.State.{most_bytes, own}
 use Rattle.reader.specs.Feed.{held_of, taken_of, moves, front_if, filled, taking_by, taking_of, feed_by, feed_of, finish_by, finish_of}
@@ -45,7 +45,7 @@ unfolding next_of seeking_of
 next_ended s w = go (own s (length w)) s.closed
   where
     on : (e : Noted) → (onward_by s e).ended ≡ s.ended
-    on ZERO = refl
+    on Zero = refl
     on (One a) = refl
     on (Two a b) = refl
     on (Three a b c) = refl

@@ -15,7 +15,7 @@ use Rattle.reading.specs.Reading.{first}
 use Rattle.reading.proofs.Lines.{line_ends-shift}
 use Rattle.reading.proofs.Shifted.{drop-take}
 use Rattle.record.specs.declared.Noted.{Noted}
-use Rattle.record.specs.declared.Noted.TheVariants.{ZERO, One, Two, Three, Four}
+use Rattle.record.specs.declared.Noted.TheVariants.{Zero, One, Two, Three, Four}
 use Rattle.record.specs.Noted.{listed}
 use Rattle.reader.specs.declared.Reader.{Reader}
 use Rattle.reader.specs.declared.Taken.{Taken}
@@ -71,7 +71,7 @@ finish_kept B s w t g e = go (own s (length w)) s.ended s.waiting
       where
         due_ended : (n : ℕ) (c : Bool) (f : Noted) → due_by n B s c f ≡ due_by n B (ended_of s) c f
         due_ended n true f = refl
-        due_ended n false ZERO = refl
+        due_ended n false Zero = refl
         due_ended n false (One a) = refl
         due_ended n false (Two a b) = refl
         due_ended n false (Three a b c) = refl
@@ -117,7 +117,7 @@ notes_less k a fill m (e ∷ es) h n =
     (omega (arith, n.0), omega (arith, n.0, n.1), subst (λ (x : ℕ). Notes x (fill - k) (m - k) (map (λ y. y - k) es)) q (notes_less k (suc e) fill m es (omega (arith, n.0)) n.2))
 
 listed_from : (k : ℕ) (e : Noted) → listed (notes_from k e) ≡ map (λ x. x - k) (listed e)
-listed_from k ZERO = refl
+listed_from k Zero = refl
 listed_from k (One a) = refl
 listed_from k (Two a b) = refl
 listed_from k (Three a b c) = refl

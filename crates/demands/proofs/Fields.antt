@@ -24,7 +24,7 @@ use Rattle.reading.proofs.Shifted.{slice-shift, head_shift, seq_shift, qual_shif
 use mathlib.Core.Option.{Option, none, some}
 use Rattle.record.specs.declared.Record.{Record as Rec}
 use Rattle.record.specs.declared.Noted.{Noted}
-use Rattle.record.specs.declared.Noted.TheVariants.{ZERO, One, Two, Three, Four}
+use Rattle.record.specs.declared.Noted.TheVariants.{Zero, One, Two, Three, Four}
 use Rattle.record.specs.Views.{view_test, View, view_by, head_view, seq_view, qual_view, id_view, desc_by, desc_view, present, has_desc}
 use Rattle.record.proofs.Views.{fits_facts}
 use Rattle.reader.specs.declared.Byte.{Byte}
@@ -153,7 +153,7 @@ unfolding next_of
 next_viewed B s w t g = rw (good_owned B s w t g) (go s.closed refl)
   where
     fill_is : (e : Noted) → (onward_by s e).fill ≡ s.fill
-    fill_is ZERO = refl
+    fill_is Zero = refl
     fill_is (One a) = refl
     fill_is (Two a b) = refl
     fill_is (Three a b c) = refl
@@ -200,7 +200,7 @@ unfolding next_of seeking_of
 next_fill s w = go (own s (length w)) s.closed
   where
     on : (e : Noted) → (onward_by s e).fill ≡ s.fill
-    on ZERO = refl
+    on Zero = refl
     on (One a) = refl
     on (Two a b) = refl
     on (Three a b c) = refl

@@ -19,7 +19,7 @@ use Rattle.reader.specs.declared.Reader.{Reader}
 use Rattle.reader.specs.Next.{onward_by, onward_of, next_of}
 use Rattle.reader.specs.Seek.{base}
 use Rattle.record.specs.declared.Noted.{Noted}
-use Rattle.record.specs.declared.Noted.TheVariants.{ZERO, One, Two, Three, Four}
+use Rattle.record.specs.declared.Noted.TheVariants.{Zero, One, Two, Three, Four}
 use Rattle.demands.specs.Runs.{heard_of, placed, Bench}
 use Rattle.demands.proofs.Standing.{due, due_onward, good_own}
 use Rattle.demands.proofs.Nexts.{Gives, next_served}
@@ -48,7 +48,7 @@ heard_step B b g c a e =
     (sym (first_suc 0 B (onward_of s).window (onward_of s).byte.0 (onward_of s).line.0) ∙ sym (due_onward 1 B s c) ∙ v)
 
 window_is : (s : Reader) (e : Noted) → (onward_by s e).window ≡ s.window
-window_is s ZERO = refl
+window_is s Zero = refl
 window_is s (One a) = refl
 window_is s (Two a b) = refl
 window_is s (Three a b c) = refl

@@ -24,7 +24,7 @@ use Rattle.reading.proofs.Readings.{first_by, first_suc, ClosesWell, step_closes
 use Rattle.reading.proofs.Limits.{limit_here}
 use Rattle.reading.proofs.Shifted.{shift_step, step_shift}
 use Rattle.record.specs.declared.Noted.{Noted}
-use Rattle.record.specs.declared.Noted.TheVariants.{ZERO, One, Two, Three, Four}
+use Rattle.record.specs.declared.Noted.TheVariants.{Zero, One, Two, Three, Four}
 use Rattle.record.specs.declared.Sought.{Sought}
 use Rattle.record.specs.Noted.{listed, after, gathered, sought_by, sought_of}
 use Rattle.record.specs.Check.{five_of, record_at, range_of}
@@ -68,7 +68,7 @@ slice_join a b c w h k l =
 -- a search with fewer than four line ends noted gathers those and the ones that it finds
 sought_few : (H : List ℕ) (e : Noted) (m : ℕ) → length (listed e) < 4 → sought_of H e m ≡ gathered (length H) (listed e ++ after H m)
 unfolding sought_of
-sought_few H ZERO m h = refl
+sought_few H Zero m h = refl
 sought_few H (One a) m h = refl
 sought_few H (Two a b) m h = refl
 sought_few H (Three a b c) m h = refl

@@ -16,7 +16,7 @@ use Rattle.reading.specs.Answer as read
 use Rattle.reading.specs.Reading.{first, ends}
 use Rattle.reading.specs.Shift.{shift_five}
 use Rattle.record.specs.declared.Noted.{Noted}
-use Rattle.record.specs.declared.Noted.TheVariants.{ZERO, One, Two, Three, Four}
+use Rattle.record.specs.declared.Noted.TheVariants.{Zero, One, Two, Three, Four}
 use Rattle.record.specs.declared.Record.{Record as Rec}
 use Rattle.record.specs.Noted.{listed}
 use Rattle.record.specs.Check.{five_of}
@@ -75,7 +75,7 @@ ends_answers (suc n) L p M q = ap (λ (l : List read.Answer). ended ∷ l) (ends
 
 -- four line ends noted are the last variant
 four_noted : (e : Noted) → 4 ≤ length (listed e) → (a : ℕ) × (b : ℕ) × (c : ℕ) × (d : ℕ) × (e ≡ Four a b c d)
-four_noted ZERO h = absurd (omega arith)
+four_noted Zero h = absurd (omega arith)
 four_noted (One a) h = absurd (omega arith)
 four_noted (Two a b) h = absurd (omega arith)
 four_noted (Three a b c) h = absurd (omega arith)
@@ -83,7 +83,7 @@ four_noted (Four a b c d) h = (a, b, c, d, refl)
 
 -- the next start lies behind the record, by the fill point
 start_within : (s : Reader) (e : Noted) → Notes s.start s.fill s.mark (listed e) → s.start + 4 ≤ s.fill → (s.start + 4 ≤ next_start s.fill e) × (next_start s.fill e ≤ s.fill)
-start_within s ZERO n l = (l, le_refl s.fill)
+start_within s Zero n l = (l, le_refl s.fill)
 start_within s (One a) n l = (l, le_refl s.fill)
 start_within s (Two a b) n l = (l, le_refl s.fill)
 start_within s (Three a b c) n l = (l, le_refl s.fill)
@@ -118,14 +118,14 @@ after_good B s w t g i =
       λ m. same m s.closed refl,
     )
   where
-    same : (m : ℕ) (c : Bool) → s.closed ≡ c → answers (due_by m B (after_of s) s.closed ZERO) ≡ answers (due_by m B s s.closed s.noted)
+    same : (m : ℕ) (c : Bool) → s.closed ≡ c → answers (due_by m B (after_of s) s.closed Zero) ≡ answers (due_by m B s s.closed s.noted)
     same m true c =
-        ap (λ (b : Bool). answers (due_by m B (after_of s) b ZERO)) c
+        ap (λ (b : Bool). answers (due_by m B (after_of s) b Zero)) c
         ∙ ends_answers m (s.line.0 + 4) (s.byte.0 + (next_start s.fill s.noted - s.start)) s.line.0 s.byte.0
         ∙ sym (ap (λ (b : Bool). answers (due_by m B s b s.noted)) c)
     same m false c =
         let q = four_noted s.noted (i.whole c) in
-        ap (λ (b : Bool). answers (due_by m B (after_of s) b ZERO)) c
+        ap (λ (b : Bool). answers (due_by m B (after_of s) b Zero)) c
         ∙ ap (λ (f : Noted). answers (first m B s.window (s.byte.0 + (next_start s.fill f - s.start)) (s.line.0 + 4))) q.4
         ∙ sym (ap (λ (f : Noted). answers (due_by m B s false f)) q.4)
         ∙ sym (ap (λ (b : Bool). answers (due_by m B s b s.noted)) c)
@@ -369,7 +369,7 @@ set_state s w room wanted k = go (own s (length w)) (eqb (min wanted room) 0)
 
 -- where a record with no final LF was last, the next start is the fill point
 start_few : (fill : ℕ) (e : Noted) → length (listed e) < 4 → next_start fill e ≡ fill
-start_few fill ZERO h = refl
+start_few fill Zero h = refl
 start_few fill (One a) h = refl
 start_few fill (Two a b) h = refl
 start_few fill (Three a b c) h = refl
@@ -383,7 +383,7 @@ pub record Follow (B : List ℕ) (s : Reader) : Type 0 where
 after_position : (B : List ℕ) (s : Reader) (w : List ℕ) (t : ℕ) → Good B s w t → InHand s → Follow B (after_of s)
 after_position B s w t g i =
     record {
-      goes_on = λ c n. ap (λ (b : Bool). due_by n B (after_of s) b ZERO) c;
+      goes_on = λ c n. ap (λ (b : Bool). due_by n B (after_of s) b Zero) c;
       at_the_end = λ c.
           let o = i.over c in
           let h = g.holds in

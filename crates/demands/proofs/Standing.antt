@@ -11,7 +11,7 @@ use Rattle.reading.specs.Bytes.{line_ends}
 use Rattle.reading.specs.Answer.{Told}
 use Rattle.reading.specs.Reading.{first, ends}
 use Rattle.record.specs.declared.Noted.{Noted}
-use Rattle.record.specs.declared.Noted.TheVariants.{ZERO, One, Two, Three, Four}
+use Rattle.record.specs.declared.Noted.TheVariants.{Zero, One, Two, Three, Four}
 use Rattle.record.specs.Noted.{listed}
 use Rattle.reader.specs.declared.Reader.{Reader}
 use Rattle.reader.specs.State.{most_bytes, own, Notes, Own, fresh_of}
@@ -64,7 +64,7 @@ good_owned B s w t g = own_true s (length w) (good_own B s w t g)
 abbrev pub due_by : ℕ → List ℕ → Reader → Bool → Noted → List Told
 due_by n B s true e = ends n s.line.0 s.byte.0
 due_by n B s false (Four a b c d) = first n B s.window (s.byte.0 + (d + 1 - s.start)) (s.line.0 + 4)
-due_by n B s false ZERO = first n B s.window s.byte.0 s.line.0
+due_by n B s false Zero = first n B s.window s.byte.0 s.line.0
 due_by n B s false (One a) = first n B s.window s.byte.0 s.line.0
 due_by n B s false (Two a b) = first n B s.window s.byte.0 s.line.0
 due_by n B s false (Three a b c) = first n B s.window s.byte.0 s.line.0
@@ -74,7 +74,7 @@ due n B s = due_by n B s s.closed s.noted
 
 due_none : (B : List ℕ) (s : Reader) (c : Bool) (e : Noted) → due_by zero B s c e ≡ []
 due_none B s true e = refl
-due_none B s false ZERO = first_zero B s.window s.byte.0 s.line.0
+due_none B s false Zero = first_zero B s.window s.byte.0 s.line.0
 due_none B s false (One a) = first_zero B s.window s.byte.0 s.line.0
 due_none B s false (Two a b) = first_zero B s.window s.byte.0 s.line.0
 due_none B s false (Three a b c) = first_zero B s.window s.byte.0 s.line.0
@@ -85,7 +85,7 @@ due_zero B s = due_none B s s.closed s.noted
 
 -- of a state that seeks, the reading from its position
 pub due_few : (n : ℕ) (B : List ℕ) (s : Reader) (e : Noted) → length (listed e) < 4 → due_by n B s false e ≡ first n B s.window s.byte.0 s.line.0
-due_few n B s ZERO h = refl
+due_few n B s Zero h = refl
 due_few n B s (One a) h = refl
 due_few n B s (Two a b) h = refl
 due_few n B s (Three a b c) h = refl
@@ -96,7 +96,7 @@ pub due_onward : (n : ℕ) (B : List ℕ) (s : Reader) → s.closed ≡ false �
 due_onward n B s c = ap (λ (b : Bool). due_by n B s b s.noted) c ∙ go s.noted
   where
     go : (e : Noted) → due_by n B s false e ≡ first n B (onward_by s e).window (onward_by s e).byte.0 (onward_by s e).line.0
-    go ZERO = refl
+    go Zero = refl
     go (One a) = refl
     go (Two a b) = refl
     go (Three a b c) = refl
@@ -111,7 +111,7 @@ onward_good B s w t g c = go s.noted refl
     stays h = (g, (h, g.noted c h), c)
 
     go : (e : Noted) → s.noted ≡ e → Good B (onward_by s e) w t × Searched (onward_by s e) w × ((onward_by s e).closed ≡ false)
-    go ZERO q = stays (rw q (omega arith))
+    go Zero q = stays (rw q (omega arith))
     go (One a) q = stays (rw q (omega arith))
     go (Two a b) q = stays (rw q (omega arith))
     go (Three a b c') q = stays (rw q (omega arith))

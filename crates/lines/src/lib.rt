@@ -1,11 +1,13 @@
 // Leaves of the reader: the line search, `trim_cr`, the copy of bytes into lent memory, the move of kept bytes to a slice's front.
 // Each is total: it takes any bytes and any numbers.
+#![tactic(auto)]
+
 ghost use Rattle.std.specs.Prelude.{◌≡◌, min};
 ghost use Rattle.reading.specs.Bytes.{trim_cr};
 ghost use Rattle.lines.specs.Lines.{line_from, copied, moved_front};
 
 // Where a line end was found.
-#[derive(Drop)]
+#[derive(Clone, Copy)]
 pub enum Found {
     At(usize),
     Nothing,

@@ -3,7 +3,7 @@ use reader::Reader;
 use record::Noted;
 
 // The noted line ends, as numbers.
-#[derive(Drop)]
+#[derive(Clone, Copy)]
 struct Notes {
     count: u8,
     head: usize,

@@ -5,7 +5,7 @@ use crate::telling;
 use reader::{Answer, Opened, Reader, Taken};
 
 // What a run has come to.
-#[derive(Drop)]
+#[derive(Clone, Copy)]
 struct Run {
     reader: Reader,
     taken: usize, // how much of the input the reader took

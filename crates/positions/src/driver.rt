@@ -4,7 +4,7 @@ use lines::least;
 use reader::{Answer, Opened, Reader};
 
 // What a run has come to.
-#[derive(Drop)]
+#[derive(Clone, Copy)]
 struct Run {
     reader: Reader,
     from: usize, // the chunk's bytes from here

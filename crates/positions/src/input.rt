@@ -4,7 +4,7 @@ use libc::{STDERR_FILENO, STDIN_FILENO};
 use reader::Taken;
 
 // The chunk's bytes that are not taken yet: none at the end of the input.
-#[derive(Drop)]
+#[derive(Clone, Copy)]
 pub struct Left {
     pub from: usize,
     pub to: usize,
@@ -12,7 +12,7 @@ pub struct Left {
 }
 
 // How many bytes the reader took.
-#[derive(Drop)]
+#[derive(Clone, Copy)]
 pub struct Took {
     pub count: usize,
     pub refused: bool, // it refused them

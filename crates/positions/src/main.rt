@@ -1,5 +1,7 @@
 // Reads FASTQ from standard input and prints a line for each answer of the reader, and then the position.
 // Arguments, both optional: the window's size and the most bytes of a chunk.
+#![tactic(auto)]
+
 mod driver;
 mod input;
 mod output;

@@ -7,7 +7,7 @@ use writer::Written;
 const LINE: usize = 256;
 
 // How many bytes of output wait to be written.
-#[derive(Drop)]
+#[derive(Clone, Copy)]
 pub struct Gathered {
     pub count: usize,
     pub failed: bool, // a write failed

@@ -1,5 +1,7 @@
 // The protocol of a user who reads a whole input: ask, and answer each request by the input's next bytes or, when all are taken, by its end.
 // Takes any input, window and chunk size.
+#![tactic(auto)]
+
 ghost use Rattle.std.specs.Prelude.{◌≡◌, ◌≤◌, ◌<◌, length};
 ghost use Rattle.reading.specs.Reading.{reading};
 ghost use Rattle.reader.specs.State.{most_bytes, fresh_of};
@@ -11,7 +13,7 @@ ghost use Rattle.protocol.specs.Outcome.{tallied_of, outcome_of, outcome, Leaves
 use reader::{Answer, Opened, Reader, Taken};
 
 // How many records there are, the answer that closes the reading, and the state after it, which tells the position.
-#[derive(Drop)]
+#[derive(Clone, Copy)]
 pub struct Tally {
     pub records: u64,
     pub closing: Answer,
@@ -19,21 +21,21 @@ pub struct Tally {
 }
 
 // The tally, or 1, 6 or 5.
-#[derive(Drop)]
+#[derive(Clone, Copy)]
 pub enum Counted {
     Done(Tally),
     Refused(u8),
 }
 
 // The state after a request was answered, and how much of the input is then taken.
-#[derive(Drop)]
+#[derive(Clone, Copy)]
 struct Supplied {
     state: Reader,
     at: usize,
 }
 
 // What an answer means to the protocol.
-#[derive(Drop)]
+#[derive(Clone, Copy)]
 enum Kind {
     Record,
     Request,

@@ -3,7 +3,7 @@
 use Rattle.std.specs.Prelude.{ℕ, ◌+◌, ◌-◌, min, Bool, true, false, List, [], ◌∷◌, ◌++◌, length, take, drop, leb, ltb}
 use Rattle.std.proofs.Math.Seq.{slice}
 use Rattle.record.specs.declared.Noted.{Noted}
-use Rattle.record.specs.declared.Noted.TheVariants.{ZERO, One, Two, Three, Four}
+use Rattle.record.specs.declared.Noted.TheVariants.{Zero, One, Two, Three, Four}
 use Rattle.reader.specs.declared.Reader.{Reader}
 use Rattle.reader.specs.declared.Taken.{Taken}
 use Rattle.reader.specs.declared.Taken.TheVariants.{Took, Refused}
@@ -23,7 +23,7 @@ taken_of s n = min n (s.window - held_of s)
 
 -- the noted line ends, counted from `start`
 abbrev pub notes_from : ℕ → Noted → Noted
-notes_from k ZERO = ZERO
+notes_from k Zero = Zero
 notes_from k (One a) = One (a - k)
 notes_from k (Two a b) = Two (a - k) (b - k)
 notes_from k (Three a b c) = Three (a - k) (b - k) (c - k)

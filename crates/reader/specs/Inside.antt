@@ -5,7 +5,7 @@ use Rattle.reading.specs.Bytes.{pieces, all_blank}
 use Rattle.reading.specs.Reading.{validate, end_id}
 use Rattle.lines.specs.Lines.{moved_front}
 use Rattle.record.specs.declared.Noted.{Noted}
-use Rattle.record.specs.declared.Noted.TheVariants.{ZERO, One, Two, Three, Four}
+use Rattle.record.specs.declared.Noted.TheVariants.{Zero, One, Two, Three, Four}
 use Rattle.record.specs.declared.Record.{Record}
 use Rattle.record.specs.declared.Check.{Check}
 use Rattle.record.specs.declared.Check.TheVariants.{Good, Start, Separator, Lengths}
@@ -39,7 +39,7 @@ nothing_of = record { start = 0; seq = 0; sep = 0; qual = 0; end = 0 }
 abbrev pub numbers_of : Noted → ℕ → ℕ → Record
 numbers_of (Four a b c d) start end = record { start = start; seq = a + 1; sep = b + 1; qual = c + 1; end = d }
 numbers_of (Three a b c) start end = record { start = start; seq = a + 1; sep = b + 1; qual = c + 1; end = end }
-numbers_of ZERO start end = nothing_of
+numbers_of Zero start end = nothing_of
 numbers_of (One a) start end = nothing_of
 numbers_of (Two a b) start end = nothing_of
 

@@ -5,7 +5,7 @@ use Rattle.reading.specs.Answer.{Five, found, window_limit, invalid_start, inval
 use Rattle.reading.specs.Answer as told
 use Rattle.reading.specs.Reading.{Step, onward, unended, closing, rest, step_with}
 use Rattle.record.specs.declared.Noted.{Noted}
-use Rattle.record.specs.declared.Noted.TheVariants.{ZERO, One, Two, Three, Four}
+use Rattle.record.specs.declared.Noted.TheVariants.{Zero, One, Two, Three, Four}
 use Rattle.record.specs.declared.Sought.{Sought}
 use Rattle.record.specs.Noted.{listed, sought_of}
 use Rattle.record.specs.Check.{record_at, range_of}
@@ -51,8 +51,8 @@ decided_of H W p L b end e = decided_by H W p L b (listed e) (settles H W p end 
 
 -- from a complete record that was answered to the one behind it
 abbrev pub onward_by : Reader → Noted → Reader
-onward_by s (Four a b c d) = state_of s.window (d + 1) s.fill ZERO (d + 1) (s.line.0 + 4) (s.byte.0 + (d + 1 - s.start)) s.ended s.waiting s.closed
-onward_by s ZERO = s
+onward_by s (Four a b c d) = state_of s.window (d + 1) s.fill Zero (d + 1) (s.line.0 + 4) (s.byte.0 + (d + 1 - s.start)) s.ended s.waiting s.closed
+onward_by s Zero = s
 onward_by s (One a) = s
 onward_by s (Two a b) = s
 onward_by s (Three a b c) = s

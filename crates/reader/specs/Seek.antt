@@ -1,7 +1,7 @@
 -- Seek.
 -- Assumes nothing.
 use Rattle.std.specs.Prelude.{ℕ, ◌+◌, ◌-◌, Bool, true, false, ◌&&◌, leb, ltb}
-use Rattle.record.specs.declared.Noted.TheVariants.{ZERO}
+use Rattle.record.specs.declared.Noted.TheVariants.{Zero}
 use Rattle.reader.specs.declared.Position.{Position}
 use Rattle.reader.specs.declared.Reader.{Reader}
 use Rattle.reader.specs.declared.Place.{Place}
@@ -21,12 +21,12 @@ is_held s q = leb (base s) q && ltb q (base s + s.fill)
 abbrev pub moved_by : Reader → Position → Bool → Moved
 moved_by s p true =
     record {
-      state = state_of s.window (p.byte.0 - base s) s.fill ZERO (p.byte.0 - base s) p.line.0 p.byte.0 s.ended false false;
+      state = state_of s.window (p.byte.0 - base s) s.fill Zero (p.byte.0 - base s) p.line.0 p.byte.0 s.ended false false;
       answer = Inside;
     }
 moved_by s p false =
     record {
-      state = state_of s.window 0 0 ZERO 0 p.line.0 p.byte.0 false true false;
+      state = state_of s.window 0 0 Zero 0 p.line.0 p.byte.0 false true false;
       answer = FeedFrom p.byte;
     }
 

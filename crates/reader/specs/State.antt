@@ -2,7 +2,7 @@
 -- Assumes nothing.
 use Rattle.std.specs.Prelude.{ℕ, suc, ◌+◌, ◌-◌, ◌^◌, ◌≤◌, ◌<◌, ◌≡◌, Bool, true, false, ◌&&◌, List, [], ◌∷◌, leb, ltb, eqb}
 use Rattle.record.specs.declared.Noted.{Noted}
-use Rattle.record.specs.declared.Noted.TheVariants.{ZERO}
+use Rattle.record.specs.declared.Noted.TheVariants.{Zero}
 use Rattle.record.specs.Noted.{listed}
 use Rattle.reader.specs.declared.Line.{Line}
 use Rattle.reader.specs.declared.Byte.{Byte}
@@ -39,7 +39,7 @@ state_of W start fill noted mark L b ended waiting closed =
 
 -- a fresh state: line 1, byte 0, nothing held, waiting
 abbrev pub fresh_of : ℕ → Reader
-fresh_of W = state_of W 0 0 ZERO 0 1 0 false true false
+fresh_of W = state_of W 0 0 Zero 0 1 0 false true false
 
 abbrev pub open_by : ℕ → Bool → Opened
 open_by W true = Fresh (fresh_of W)

@@ -1,5 +1,7 @@
 // The reader: a state that is handed in and handed back changed, over a window that the caller lends.
 // Feed and finish bring input, next answers, seek moves, position tells. Each call takes any state, window and numbers, and does its own checking.
+#![tactic(auto)]
+
 ghost use Rattle.std.specs.Prelude.{◌≡◌, false, ◌+◌, ◌-◌, ◌≤◌, ◌<◌, length};
 ghost use Rattle.std.proofs.Math.Seq.{slice};
 ghost use Rattle.reading.specs.Bytes.{is_empty, trim_cr, pieces, all_blank};
@@ -15,21 +17,21 @@ ghost use Rattle.reader.specs.Inside.{put_of, land_of, nothing_of, numbers_of, t
 use record::{Check, Noted, Range, Record};
 
 // Line numbers and byte offsets are kinds that can't be mixed.
-#[derive(Drop)]
+#[derive(Clone, Copy)]
 pub struct Line(pub u64);
 
-#[derive(Drop)]
+#[derive(Clone, Copy)]
 pub struct Byte(pub u64);
 
 // Where a record starts: its line, and its offset in the input.
-#[derive(Drop)]
+#[derive(Clone, Copy)]
 pub struct Position {
     pub line: Line,
     pub byte: Byte,
 }
 
 // The state. Held bytes are window[..fill]; window[0] is the input's byte number byte - start.
-#[derive(Drop)]
+#[derive(Clone, Copy)]
 pub struct Reader {
     pub window: usize, // the window's length
     pub start: usize, // where the record starts that is sought or was answered
@@ -44,40 +46,40 @@ pub struct Reader {
 }
 
 // What open answers: a fresh state, or 1.
-#[derive(Drop)]
+#[derive(Clone, Copy)]
 pub enum Opened {
     Fresh(Reader),
     Refused(u8),
 }
 
 // What feed took, or 2, 4, 3 or 5.
-#[derive(Drop)]
+#[derive(Clone, Copy)]
 pub enum Taken {
     Took(usize),
     Refused(u8),
 }
 
-#[derive(Drop)]
+#[derive(Clone, Copy)]
 pub struct Fed {
     pub state: Reader,
     pub answer: Taken,
 }
 
 // The end is noted, or 2, 4 or 3.
-#[derive(Drop)]
+#[derive(Clone, Copy)]
 pub enum Ending {
     Noted,
     Refused(u8),
 }
 
-#[derive(Drop)]
+#[derive(Clone, Copy)]
 pub struct Finished {
     pub state: Reader,
     pub answer: Ending,
 }
 
 // What next answers. A record's five numbers and an id's range are places in the window; the byte beside them is absolute.
-#[derive(Drop)]
+#[derive(Clone, Copy)]
 pub enum Answer {
     Record(Record, Byte),
     More,
@@ -90,28 +92,28 @@ pub enum Answer {
     Refused(u8),
 }
 
-#[derive(Drop)]
+#[derive(Clone, Copy)]
 pub struct Next {
     pub state: Reader,
     pub answer: Answer,
 }
 
 // The place is among the held bytes; or the byte to feed from; or 2 or 5.
-#[derive(Drop)]
+#[derive(Clone, Copy)]
 pub enum Place {
     Inside,
     FeedFrom(Byte),
     Refused(u8),
 }
 
-#[derive(Drop)]
+#[derive(Clone, Copy)]
 pub struct Moved {
     pub state: Reader,
     pub answer: Place,
 }
 
 // What next answers but for the state's numbers, and whether it then waits or is closed.
-#[derive(Drop)]
+#[derive(Clone, Copy)]
 pub struct Decided {
     pub answer: Answer,
     pub waiting: bool,

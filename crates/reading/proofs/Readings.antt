@@ -28,7 +28,7 @@ unfolding read_for
 read_for_enough zero m B W p L h k = absurd (omega arith)
 read_for_enough (suc n) zero B W p L h k = absurd (omega arith)
 read_for_enough (suc n) (suc m) B W p L h k =
-    follow_agree _ _ p L (step_at B W p L)
+    follow_agree (read_for n B W) (read_for m B W) p L (step_at B W p L)
     (λ r e.
     let g = step_onward B W p L r e in
     read_for_enough n m B W (r.end + 1) (L + 4) (omega arith) (omega arith))
@@ -38,7 +38,7 @@ pub reading_is : (B : List ℕ) (W p L : ℕ) → reading B W p L ≡ follow (λ
 unfolding reading read_for
 reading_is B W p L =
     rw (add-one (length B))
-    (follow_agree _ _ p L (step_at B W p L)
+    (follow_agree (read_for (length B) B W) (read_for (suc (length B)) B W) p L (step_at B W p L)
     (λ r e.
     let g = step_onward B W p L r e in
     read_for_enough (length B) (suc (length B)) B W (r.end + 1) (L + 4) (omega arith) (omega arith)))

@@ -11,7 +11,7 @@ use native.Mathlib.Omega.{arith}
 use lib.Dec.{leb, ltb}
 use lib.ListN.{length, take, drop, length-drop}
 use lib.Seq.{take_all}
-use borrow.Author.Tests.{le-leb, lt-leb, leb-true, leb-false, lt-ltb, le-ltb, not-true, not-false}
+use borrow.Author.Tests.{le-leb, lt-leb, leb-true, leb-false, lt-ltb, le-ltb}
 use denote.Ref.{Bor}
 use Rattle.reading.specs.Bytes.{id_length}
 use Rattle.reading.specs.Answer.{Five}
@@ -52,20 +52,20 @@ fits_facts r n e =
     record { head = leb-true _ _ t.0; sequence = leb-true _ _ t.1; separator = leb-true _ _ s.1; quality = leb-true _ _ q.1; inside = leb-true _ _ p.1 }
 
 -- the same of a test that was asked and did not fail
-pub fits_asked : {t : Bool} (r : Five) (n : ℕ) → t ≡ view_test r n → not t ≡ false → Fits r n
-fits_asked r n e h = fits_facts r n (sym e ∙ not-false _ h)
+pub fits_asked : {t : Bool} (r : Five) (n : ℕ) → t ≡ view_test r n → t ≡ true → Fits r n
+fits_asked r n e h = fits_facts r n (sym e ∙ h)
 
 -- where the test did not fail, the view is shown
-pub shown : {w v : Bor (List ℕ)} {t : Bool} (u : Bool) (x : View) → t ≡ u → not t ≡ false → Shows w x v → Shows w (view_by u x) v
-shown u x e h s = let q : u ≡ true = sym e ∙ not-false _ h in rw q s
+pub shown : {w v : Bor (List ℕ)} {t : Bool} (u : Bool) (x : View) → t ≡ u → t ≡ true → Shows w x v → Shows w (view_by u x) v
+shown u x e h s = let q : u ≡ true = sym e ∙ h in rw q s
 
 -- the empty part at the window's front shows nothing
 pub front : {w v : Bor (List ℕ)} → v.now ≡ [] → v.ref_ptr ≡ w.ref_ptr → Shows w nowhere v
 front {w} b p = record { bytes = b; place = p ∙ ap (λ (k : ℕ). (w.ref_ptr.0, k)) (sym (zero-add w.ref_ptr.1)) }
 
 -- where it failed, that part is shown
-pub hidden : {w v : Bor (List ℕ)} {t : Bool} (u : Bool) (x : View) → t ≡ u → not t ≡ true → v.now ≡ [] → v.ref_ptr ≡ w.ref_ptr → Shows w (view_by u x) v
-hidden u x e h b p = let q : u ≡ false = sym e ∙ not-true _ h in rw q (front b p)
+pub hidden : {w v : Bor (List ℕ)} {t : Bool} (u : Bool) (x : View) → t ≡ u → t ≡ false → v.now ≡ [] → v.ref_ptr ≡ w.ref_ptr → Shows w (view_by u x) v
+hidden u x e h b p = let q : u ≡ false = sym e ∙ h in rw q (front b p)
 
 -- ---- the parts of a head that is shown as the part h, n bytes of which are its id
 

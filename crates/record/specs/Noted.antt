@@ -3,12 +3,12 @@
 use Rattle.std.specs.Prelude.{ℕ, ◌+◌, List, [], ◌∷◌, ◌++◌, length, drop}
 use Rattle.reading.specs.Bytes.{line_ends}
 use Rattle.record.specs.declared.Noted.{Noted}
-use Rattle.record.specs.declared.Noted.TheVariants.{ZERO, One, Two, Three, Four}
+use Rattle.record.specs.declared.Noted.TheVariants.{Zero, One, Two, Three, Four}
 use Rattle.record.specs.declared.Sought.{Sought}
 
 -- the noted line ends as a list
 abbrev pub listed : Noted → List ℕ
-listed ZERO = []
+listed Zero = []
 listed (One a) = a ∷ []
 listed (Two a b) = a ∷ b ∷ []
 listed (Three a b c) = a ∷ b ∷ c ∷ []
@@ -19,7 +19,7 @@ sought e m = record { noted = e; mark = m }
 
 -- the first four of the line ends are noted, and the search stops after the fourth; where there are fewer, all n held bytes are searched
 abbrev pub gathered : ℕ → List ℕ → Sought
-gathered n [] = sought ZERO n
+gathered n [] = sought Zero n
 gathered n (a ∷ []) = sought (One a) n
 gathered n (a ∷ b ∷ []) = sought (Two a b) n
 gathered n (a ∷ b ∷ c ∷ []) = sought (Three a b c) n
@@ -31,7 +31,7 @@ after h m = line_ends m (drop m h)
 
 abbrev pub sought_by : List ℕ → ℕ → Noted → Sought
 sought_by h m (Four a b c d) = sought (Four a b c d) m
-sought_by h m ZERO = gathered (length h) (after h m)
+sought_by h m Zero = gathered (length h) (after h m)
 sought_by h m (One a) = gathered (length h) (a ∷ after h m)
 sought_by h m (Two a b) = gathered (length h) (a ∷ b ∷ after h m)
 sought_by h m (Three a b c) = gathered (length h) (a ∷ b ∷ c ∷ after h m)

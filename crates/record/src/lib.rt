@@ -1,5 +1,7 @@
 // A record in a window: the search for its line ends, which goes on where it stopped, its validation, and its views.
 // Each function takes any bytes and any numbers.
+#![tactic(auto)]
+
 ghost use Rattle.std.specs.Prelude.{◌≡◌, ◌+◌, ◌-◌, ◌≤◌, ◌∷◌, length};
 ghost use Rattle.std.proofs.Math.Seq.{slice};
 ghost use Rattle.reading.specs.Bytes.{byte_at, trim_cr, line_ends, id_length};
@@ -11,7 +13,7 @@ ghost use Rattle.record.specs.Views.{view_test, Shows, head_view, seq_view, qual
 use lines::Found;
 
 // The line ends noted so far, of the record that is sought or was answered: one variant for each count.
-#[derive(Drop)]
+#[derive(Clone, Copy)]
 pub enum Noted {
     Zero,
     One(usize),
@@ -21,21 +23,21 @@ pub enum Noted {
 }
 
 // The notes after a search, and the place up to which bytes are searched.
-#[derive(Drop)]
+#[derive(Clone, Copy)]
 pub struct Sought {
     pub noted: Noted,
     pub mark: usize,
 }
 
 // A range of bytes of the window, or none.
-#[derive(Drop)]
+#[derive(Clone, Copy)]
 pub enum Range {
     Absent,
     Bytes(usize, usize),
 }
 
 // What validation says: the values of errors 8, 9 and 10 but for the line.
-#[derive(Drop)]
+#[derive(Clone, Copy)]
 pub enum Check {
     Good,
     Start(u8),
@@ -44,7 +46,7 @@ pub enum Check {
 }
 
 // The five numbers of a record: its start, the places after its first, second and third LF, and its end.
-#[derive(Drop)]
+#[derive(Clone, Copy)]
 pub struct Record {
     pub start: usize,
     pub seq: usize,

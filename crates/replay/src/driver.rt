@@ -8,7 +8,7 @@ use record::Record;
 use sets::Reply;
 
 // What a run has come to.
-#[derive(Drop)]
+#[derive(Clone, Copy)]
 struct Run {
     reader: Reader,
     closed: bool, // the closing answer is told

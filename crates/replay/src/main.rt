@@ -1,5 +1,7 @@
 // Replays a fixed list of the Rust's answers: reads rows from standard input, runs the library on each, and writes the answers.
 // The file `stdin` has the rows and `stdout` what the Rust answered to them; oracle/run --list wrote both.
+#![tactic(auto)]
+
 mod driver;
 mod rows;
 mod telling;

@@ -3,7 +3,7 @@
 ghost use Rattle.std.specs.Prelude.{◌≡◌};
 
 // What stands in a row before its input, and where the input starts.
-#[derive(Drop)]
+#[derive(Clone, Copy)]
 pub struct Row {
     pub kind: u8, // n: by next; k: a seek to the line a and the byte b, once the reading is closed; s: by sets of at most a records
     pub window: usize,
@@ -14,14 +14,14 @@ pub struct Row {
 }
 
 // A number and where the text goes on.
-#[derive(Drop)]
+#[derive(Clone, Copy)]
 pub struct Number {
     pub value: usize,
     pub at: usize,
 }
 
 // How many bytes were put, and where the next row starts.
-#[derive(Drop)]
+#[derive(Clone, Copy)]
 pub struct Got {
     pub count: usize,
     pub at: usize,

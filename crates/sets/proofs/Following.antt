@@ -11,7 +11,7 @@ use Rattle.reading.specs.Bytes.{pieces, all_blank}
 use Rattle.reading.specs.Answer as reading
 use Rattle.reading.specs.Reading.{Verdict, good, bad_start, bad_separator, bad_lengths, Step, onward, unended, closing, judged, validate, rest, record_of, complete, tail_by, tail_rule, step_with}
 use Rattle.record.specs.declared.Noted.{Noted}
-use Rattle.record.specs.declared.Noted.TheVariants.{ZERO, One, Two, Three, Four}
+use Rattle.record.specs.declared.Noted.TheVariants.{Zero, One, Two, Three, Four}
 use Rattle.record.specs.declared.Record.{Record}
 use Rattle.record.specs.Noted.{listed}
 use Rattle.reader.specs.declared.Byte.{Byte}
@@ -41,7 +41,7 @@ never r e = let z : ◌≡◌ {A = ℕ} 0 1 = cc in absurd (omega arith)
 abbrev Left : Bool → Noted → Type 0
 Left closed (Four a b c d) = closed ≡ false
 Left closed (Three a b c) = closed ≡ true
-Left closed ZERO = ⊥
+Left closed Zero = ⊥
 Left closed (One a) = ⊥
 Left closed (Two a b) = ⊥
 
@@ -76,7 +76,7 @@ module _ (H : List ℕ) (W p L : ℕ) (b : Byte) (end : Bool) (r : Record) where
       let y = record_of p es (length H) in
       let q = short es refl e in
       ap (λ (k : Decided). k.closed) q ∙ whole (unended y) (validate H y) (sym (ap (λ (k : Decided). row_in k.answer) q) ∙ e)
-  decided_left ZERO e = few [] (all_blank (pieces H p [])) (sym (ap (λ (k : Decided). row_in k.answer) (short [] refl e)) ∙ e)
+  decided_left Zero e = few [] (all_blank (pieces H p [])) (sym (ap (λ (k : Decided). row_in k.answer) (short [] refl e)) ∙ e)
   decided_left (One a) e = few (a ∷ []) (all_blank (pieces H p (a ∷ []))) (sym (ap (λ (k : Decided). row_in k.answer) (short (a ∷ []) refl e)) ∙ e)
   decided_left (Two a c) e = few (a ∷ c ∷ []) (all_blank (pieces H p (a ∷ c ∷ []))) (sym (ap (λ (k : Decided). row_in k.answer) (short (a ∷ c ∷ []) refl e)) ∙ e)
 
@@ -101,7 +101,7 @@ then_next t w o a l = rw (o, a) (go t.closed l)
     by : (e : Noted) → Left false e → (seeking_of (placed t (next_start t.fill e)) w).answer ≡ (seeking_of (onward_by t e) w).answer
     by (Four a b c d) l = refl
     by (Three a b c) l = absurd (true≢false (sym l))
-    by ZERO l = absurd l
+    by Zero l = absurd l
     by (One a) l = absurd l
     by (Two a b) l = absurd l
 
@@ -113,7 +113,7 @@ then_next t w o a l = rw (o, a) (go t.closed l)
 at_fill : (fill : ℕ) (closed : Bool) (e : Noted) → closed ≡ true → Left closed e → next_start fill e ≡ fill
 at_fill fill closed (Four a b c d) q l = absurd (true≢false (sym q ∙ l))
 at_fill fill closed (Three a b c) q l = refl
-at_fill fill closed ZERO q l = absurd l
+at_fill fill closed Zero q l = absurd l
 at_fill fill closed (One a) q l = absurd l
 at_fill fill closed (Two a b) q l = absurd l
 
@@ -181,7 +181,7 @@ module _ (s : Reader) (w : List ℕ) (room wanted : ℕ) where
 
   -- the state that a set call leaves is not waiting, and nothing of the following record counts as searched
   pub count_unsearched : (k : ℕ) → (set_of s w room wanted).answer ≡ Count k
-      → ((set_of s w room wanted).state.waiting ≡ false) × ((set_of s w room wanted).state.noted ≡ ZERO) × ((set_of s w room wanted).state.mark ≡ (set_of s w room wanted).state.start)
+      → ((set_of s w room wanted).state.waiting ≡ false) × ((set_of s w room wanted).state.noted ≡ Zero) × ((set_of s w room wanted).state.mark ≡ (set_of s w room wanted).state.start)
   count_unsearched k e = rw (count_gives s w room wanted k e).2 (refl, refl, refl)
 
   -- after a record with no final LF: the position is four lines on and at the end of the held bytes, and a following End keeps it

@@ -8,7 +8,7 @@ use native.Mathlib.Omega.{arith}
 use native.Mathlib.Nat.{le_refl}
 use lib.ListN.{length}
 use Rattle.record.specs.declared.Noted.{Noted}
-use Rattle.record.specs.declared.Noted.TheVariants.{ZERO, One, Two, Three, Four}
+use Rattle.record.specs.declared.Noted.TheVariants.{Zero, One, Two, Three, Four}
 use Rattle.record.specs.Noted.{listed}
 use Rattle.reader.specs.declared.Reader.{Reader}
 use Rattle.reader.specs.State.{most_bytes, most_lines, notes_fit, own, Notes, Own}
@@ -24,7 +24,7 @@ unfolding next_of seeking_of
 next_window s w = go (own s (length w)) s.closed
   where
     by : (e : Noted) → (onward_by s e).window ≡ s.window
-    by ZERO = refl
+    by Zero = refl
     by (One a) = refl
     by (Two a b) = refl
     by (Three a b c) = refl

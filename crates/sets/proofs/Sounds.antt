@@ -9,7 +9,7 @@ use native.Mathlib.Nat.{le_refl}
 use lib.ListN.{length, take}
 use lib.Seq.{length-take-le}
 use Rattle.record.specs.declared.Noted.{Noted}
-use Rattle.record.specs.declared.Noted.TheVariants.{ZERO, One, Two, Three, Four}
+use Rattle.record.specs.declared.Noted.TheVariants.{Zero, One, Two, Three, Four}
 use Rattle.record.specs.declared.Record.{Record}
 use Rattle.record.specs.Noted.{listed, after, gathered, sought_by, sought_of}
 use Rattle.reader.specs.declared.Reader.{Reader}
@@ -23,7 +23,7 @@ use Rattle.sets.specs.Inside.{Sound}
 
 -- the place behind a record lies between its start and the fill point
 pub start_within : (a fill m : ℕ) (e : Noted) → Notes a fill m (listed e) → (a ≤ next_start fill e) × (next_start fill e ≤ fill)
-start_within a fill m ZERO n = (omega arith, le_refl fill)
+start_within a fill m Zero n = (omega arith, le_refl fill)
 start_within a fill m (One b) n = (omega (arith, n), le_refl fill)
 start_within a fill m (Two b c) n = (omega (arith, n), le_refl fill)
 start_within a fill m (Three b c d) n = (omega (arith, n), le_refl fill)
@@ -47,7 +47,7 @@ sought_fits H e p m n = go e n (sought_notes H e p m n)
         (k.0, k.1, (k.2.0, k.2.1, (k.2.2.0, k.2.2.1, (z.0, z.1, (omega arith, omega (arith, z.1))))))
 
     go : (f : Noted) → Notes p L m (listed f) → Notes p L L (listed (sought_by H m f).noted) → Notes p L (sought_by H m f).mark (listed (sought_by H m f).noted)
-    go ZERO h k = by (after H m) k
+    go Zero h k = by (after H m) k
     go (One a) h k = by (a ∷ after H m) k
     go (Two a b) h k = by (a ∷ b ∷ after H m) k
     go (Three a b c) h k = by (a ∷ b ∷ c ∷ after H m) k
@@ -61,7 +61,7 @@ onward_sound s n o = go s.noted o.notes
     stays = record { forward = o.forward; inside = o.inside; notes = o.notes; behind = o.behind; near = o.near; few = omega (arith, o.few) }
 
     go : (e : Noted) → Notes s.start s.fill s.mark (listed e) → Sound (onward_by s e)
-    go ZERO k = stays
+    go Zero k = stays
     go (One a) k = stays
     go (Two a b) k = stays
     go (Three a b c) k = stays

@@ -4,7 +4,7 @@ use Rattle.std.specs.Prelude.{ℕ, zero, suc, ◌+◌, ◌-◌, ◌/◌, min, Bo
 use Rattle.std.proofs.Math.Option.{Option, none, some}
 use Rattle.record.specs.declared.Record.{Record}
 use Rattle.record.specs.declared.Noted.{Noted}
-use Rattle.record.specs.declared.Noted.TheVariants.{ZERO, One, Two, Three, Four}
+use Rattle.record.specs.declared.Noted.TheVariants.{Zero, One, Two, Three, Four}
 use Rattle.reader.specs.declared.Reader.{Reader}
 use Rattle.reader.specs.declared.Answer.{Answer}
 use Rattle.reader.specs.declared.Answer.TheVariants.{Record as aRecord, More, WindowLimit, InvalidStart, InvalidSeparator, UnequalLengths, UnexpectedEnd, End, Refused}
@@ -47,14 +47,14 @@ collected (suc n) s w = collected_by (λ t. collected n t w) s (next_of s w).sta
 -- where the record behind an answered one starts; behind one with no final LF, the end of the held bytes
 abbrev pub next_start : ℕ → Noted → ℕ
 next_start fill (Four a b c d) = d + 1
-next_start fill ZERO = fill
+next_start fill Zero = fill
 next_start fill (One a) = fill
 next_start fill (Two a b) = fill
 next_start fill (Three a b c) = fill
 
 -- the state that seeks four lines on, from the place p of the window: not waiting, and nothing searched
 abbrev pub placed : Reader → ℕ → Reader
-placed s p = state_of s.window p s.fill ZERO p (s.line.0 + 4) (s.byte.0 + (p - s.start)) s.ended false s.closed
+placed s p = state_of s.window p s.fill Zero p (s.line.0 + 4) (s.byte.0 + (p - s.start)) s.ended false s.closed
 
 -- the state after the last listed record: the position is the next record's; after one with no final LF the input's length, and the reading stays closed
 abbrev pub after_of : Reader → Reader

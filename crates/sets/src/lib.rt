@@ -1,5 +1,7 @@
 // Sets of records: a lent table gets the five numbers of each record that next would give, up to a wanted count.
 // Each call takes any state, window, table and count, and does its own checking.
+#![tactic(auto)]
+
 ghost use Rattle.std.specs.Prelude.{◌≡◌, ◌+◌, ◌<◌, ◌≤◌, ◌/◌, length};
 ghost use Rattle.std.proofs.lemmas.List.Edits.{sets};
 ghost use Rattle.sets.specs.Sets.{row_in, next_start, after_of, numbers_of, set_of, table_of, entries_of};
@@ -9,28 +11,28 @@ use reader::{Answer, Byte, Line, Reader};
 use record::{Noted, Record};
 
 // What a set call answers: how many records it listed; with none, next's answer; or 2 or 6.
-#[derive(Drop)]
+#[derive(Clone, Copy)]
 pub enum Reply {
     Count(usize),
     Other(Answer),
     Refused(u8),
 }
 
-#[derive(Drop)]
+#[derive(Clone, Copy)]
 pub struct Listed {
     pub state: Reader,
     pub answer: Reply,
 }
 
 // The record that an answer gives, or no record.
-#[derive(Drop)]
+#[derive(Clone, Copy)]
 pub enum Row {
     Of(Record),
     No,
 }
 
 // A set call on its way: so many records are listed of those wanted.
-#[derive(Drop)]
+#[derive(Clone, Copy)]
 pub struct Run {
     pub count: usize,
     pub wanted: usize,

@@ -1,5 +1,7 @@
 // Text: numbers as decimal digits, lines of values, and numbers out of text.
 // Each function takes any output, any place and any bytes; what does not fit is refused with 12, and nothing is written.
+#![tactic(auto)]
+
 ghost use Rattle.std.specs.Prelude.{◌≡◌, ◌++◌, ◌∷◌, [], ◌+◌, ◌≤◌, ◌<◌, length, take, drop};
 ghost use Rattle.std.proofs.Math.Option.{none};
 ghost use Rattle.writer.specs.Answer.{Writes};
@@ -10,7 +12,7 @@ ghost use Rattle.text.specs.Parse.{number_within};
 use writer::Written;
 
 // A number that lies within its limits, or no such number.
-#[derive(Drop)]
+#[derive(Clone, Copy)]
 pub enum Parsed {
     Number(u64),
     Refused,

@@ -65,13 +65,13 @@ wrote o bs m at n h e f = record { answered = rw (le-leb (at + length bs) (lengt
 
 module _ (o bs : List ℕ) (at k : ℕ) (t u : Bool) (e : t ≡ u) where
   -- a test that comes first and fails
-  pub refused : not t ≡ true → Writes (unless u k) o at bs (Refused k) o
+  pub refused : t ≡ false → Writes (unless u k) o at bs (Refused k) o
   unfolding answer
-  refused h = rw (← e, not-true t h) (record { answered = refl; leaves = laid_none o bs at })
+  refused h = rw (← e, h) (record { answered = refl; leaves = laid_none o bs at })
 
   -- a test that comes first and passes
-  pub passed : {m : List ℕ} {r : Written} → not t ≡ false → Writes none o at bs r m → Writes (unless u k) o at bs r m
-  passed h w = rw (← e, not-false t h) w
+  pub passed : {m : List ℕ} {r : Written} → t ≡ true → Writes none o at bs r m → Writes (unless u k) o at bs r m
+  passed h w = rw (← e, h) w
 
 -- ---- the bytes of a record
 

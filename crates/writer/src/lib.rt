@@ -1,5 +1,7 @@
 // Writers of records into lent output, and checked writers, which refuse fields that would not read back.
 // Each takes any place and any lengths; a refusal writes nothing.
+#![tactic(auto)]
+
 ghost use Rattle.std.specs.Prelude.{◌≡◌, ◌++◌, ◌∷◌, [], ◌+◌, ◌-◌, ◌≤◌, length, eqb};
 ghost use Rattle.std.proofs.Math.Option.{none};
 ghost use Rattle.std.proofs.Math.Seq.{slice};
@@ -14,7 +16,7 @@ use lines::Found;
 use record::{Record, id_length, less};
 
 // How many bytes were written, or the number of a refusal.
-#[derive(Drop)]
+#[derive(Clone, Copy)]
 pub enum Written {
     Wrote(usize),
     Refused(u8),

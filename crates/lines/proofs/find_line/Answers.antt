@@ -1,0 +1,19 @@
+use mathlib.Core.Path.{◌≡◌, refl, sym, ◌∙◌}
+use Prim.Native.Nat.{◌-◌}
+use lib.ListN.{length}
+use borrow.Author.Rules.{rules}
+use Rattle.lines.specs.Lines.{line_from}
+use Rattle.lines.proofs.Laws.{line_here, line_on, line_past}
+use Rattle.lines.proofs.find_line.Goals as goal
+
+pub loop-i-init : goal.loop-i-init
+loop-i-init c = refl
+
+pub returns-then-s-i-eq10 : goal.returns-then-s-i-eq10
+returns-then-s-i-eq10 c = line_here _ _ c.loop-i-test.true c.if-s-i-eq10.true ∙ c.loop-i.invariant
+
+pub loop-i-preserved : goal.loop-i-preserved
+loop-i-preserved c = sym (line_on _ _ c.loop-i-test.true c.if-s-i-eq10.false) ∙ c.loop-i.invariant
+
+pub returns : goal.returns
+returns c = sym (line_past _ _ c.loop-i-test.false) ∙ c.loop-i.invariant
