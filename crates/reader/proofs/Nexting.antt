@@ -16,7 +16,7 @@ use Rattle.reading.specs.Reading.{Verdict, good, bad_start, bad_separator, bad_l
 use Rattle.reading.specs.Reading as reading
 use Rattle.lines.proofs.Laws.{slice-take}
 use Rattle.record.specs.declared.Noted.{Noted}
-use Rattle.record.specs.declared.Noted.TheVariants.{ZERO, One, Two, Three, Four}
+use Rattle.record.specs.declared.Noted.TheVariants.{Zero, One, Two, Three, Four}
 use Rattle.record.specs.declared.Record.{Record}
 use Rattle.record.specs.declared.Range.{Range}
 use Rattle.record.specs.Noted.{listed, after, gathered, sought_by, sought_of}
@@ -100,7 +100,7 @@ sought_notes H e p m n = go e n
         (notes_take p n₀ 4 (es ++ after H m) (notes_start p n₀ m es k) (notes_join p n₀ m es (after H m) k (ends_notes m n₀ (drop m H) (omega (arith, length-drop m H)))))
 
     go : (f : Noted) → Notes p n₀ m (listed f) → Notes p n₀ n₀ (listed (sought_by H m f).noted)
-    go ZERO k = by [] k
+    go Zero k = by [] k
     go (One a) k = by (a ∷ []) k
     go (Two a b) k = by (a ∷ b ∷ []) k
     go (Three a b c) k = by (a ∷ b ∷ c ∷ []) k
@@ -114,7 +114,7 @@ onward_seeks s n o = go s.noted o.notes
     stays = record { inside = omega (arith, o.inside, o.opened); notes = o.notes; few = omega (arith, o.few) }
 
     go : (e : Noted) → Notes s.start s.fill s.mark (listed e) → Seeks (onward_by s e) n
-    go ZERO k = stays
+    go Zero k = stays
     go (One a) k = stays
     go (Two a b) k = stays
     go (Three a b c) k = stays
@@ -182,7 +182,7 @@ whole_is : (H : List ℕ) (W p L : ℕ) (b : Byte) (end : Bool) (e : Noted) → 
     → (length (listed e) < 4 → length (rest H p) < W) → (length (listed e) < 4 → end ≡ true)
     → judged_of H (numbers_of e p (length H)) L b (ltb (length (listed e)) 4) ≡ decided_of H W p L b end e
 unfolding decided_of judged_of complete tail_rule
-whole_is H W p L b end ZERO h f g = absurd (omega arith)
+whole_is H W p L b end Zero h f g = absurd (omega arith)
 whole_is H W p L b end (One a) h f g = absurd (omega arith)
 whole_is H W p L b end (Two a c) h f g = absurd (omega arith)
 whole_is H W p L b end (Three a c d) h f g =

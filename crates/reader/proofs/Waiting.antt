@@ -13,7 +13,7 @@ use borrow.Author.Tests.{leb-false}
 use Rattle.reading.specs.Answer as told
 use Rattle.reading.specs.Reading.{Step, onward, unended, closing, step_with, rest}
 use Rattle.record.specs.declared.Noted.{Noted}
-use Rattle.record.specs.declared.Noted.TheVariants.{ZERO, One, Two, Three, Four}
+use Rattle.record.specs.declared.Noted.TheVariants.{Zero, One, Two, Three, Four}
 use Rattle.record.specs.Noted.{listed, after, gathered, sought_of}
 use Rattle.reader.specs.declared.Byte.{Byte}
 use Rattle.reader.specs.declared.Reader.{Reader}
@@ -80,7 +80,7 @@ gathered_all n (a ∷ b ∷ c ∷ d ∷ es) h = absurd (omega arith)
 
 sought_all : (H : List ℕ) (e : Noted) (m : ℕ) → length (listed e) < 4 → length (listed (sought_of H e m).noted) < 4 → (sought_of H e m).mark ≡ length H
 unfolding sought_of
-sought_all H ZERO m h k = gathered_all (length H) (after H m) k
+sought_all H Zero m h k = gathered_all (length H) (after H m) k
 sought_all H (One a) m h k = gathered_all (length H) (a ∷ after H m) k
 sought_all H (Two a b) m h k = gathered_all (length H) (a ∷ b ∷ after H m) k
 sought_all H (Three a b c) m h k = gathered_all (length H) (a ∷ b ∷ c ∷ after H m) k
@@ -107,14 +107,14 @@ unfolding next_of
 next_wants s w o = rw (own_true s (length w) o) (go s.closed)
   where
     fill_is : (e : Noted) → (onward_by s e).fill ≡ s.fill
-    fill_is ZERO = refl
+    fill_is Zero = refl
     fill_is (One a) = refl
     fill_is (Two a b) = refl
     fill_is (Three a b c) = refl
     fill_is (Four a b c d) = refl
 
     few : (e : Noted) → s.noted ≡ e → length (listed (onward_by s e).noted) < 4
-    few ZERO q = rw q (omega arith)
+    few Zero q = rw q (omega arith)
     few (One a) q = rw q (omega arith)
     few (Two a b) q = rw q (omega arith)
     few (Three a b c) q = rw q (omega arith)
@@ -135,7 +135,7 @@ ended_answers s w o e f =
     omega arith
   where
     ended_is : (n : Noted) → (onward_by s n).ended ≡ s.ended
-    ended_is ZERO = refl
+    ended_is Zero = refl
     ended_is (One a) = refl
     ended_is (Two a b) = refl
     ended_is (Three a b c) = refl

@@ -22,19 +22,19 @@ pub is_blank-requires-in-One-2 : goal.is_blank-requires-in-One-2
 is_blank-requires-in-One-2 c = let a = c.args in omega (arith, notes_at a.start (length a.held.now) (length a.held.now) a.noted _ c.in-One.is c.requires.1)
 
 pub is_blank-requires-in-Two : goal.is_blank-requires-in-Two
-is_blank-requires-in-Two c = let a = c.args in omega (arith, notes_at a.start (length a.held.now) (length a.held.now) a.noted _ c.in-One.is c.requires.1)
+is_blank-requires-in-Two c = let a = c.args in omega (arith, notes_at a.start (length a.held.now) (length a.held.now) a.noted _ c.in-Two.is c.requires.1)
 
 pub overflow_add-a-in-Two : goal.overflow_add-a-in-Two
-overflow_add-a-in-Two c = let a = c.args in omega (arith, notes_at a.start (length a.held.now) (length a.held.now) a.noted _ c.in-One.is c.requires.1)
+overflow_add-a-in-Two c = let a = c.args in omega (arith, notes_at a.start (length a.held.now) (length a.held.now) a.noted _ c.in-Two.is c.requires.1)
 
 pub is_blank-requires-in-Two-2 : goal.is_blank-requires-in-Two-2
-is_blank-requires-in-Two-2 c = let a = c.args in omega (arith, notes_at a.start (length a.held.now) (length a.held.now) a.noted _ c.in-One.is c.requires.1)
+is_blank-requires-in-Two-2 c = let a = c.args in omega (arith, notes_at a.start (length a.held.now) (length a.held.now) a.noted _ c.in-Two.is c.requires.1)
 
 pub overflow_add-b : goal.overflow_add-b
-overflow_add-b c = let a = c.args in omega (arith, notes_at a.start (length a.held.now) (length a.held.now) a.noted _ c.in-One.is c.requires.1)
+overflow_add-b c = let a = c.args in omega (arith, notes_at a.start (length a.held.now) (length a.held.now) a.noted _ c.in-Two.is c.requires.1)
 
 pub is_blank-requires-in-Two-3 : goal.is_blank-requires-in-Two-3
-is_blank-requires-in-Two-3 c = let a = c.args in omega (arith, notes_at a.start (length a.held.now) (length a.held.now) a.noted _ c.in-One.is c.requires.1)
+is_blank-requires-in-Two-3 c = let a = c.args in omega (arith, notes_at a.start (length a.held.now) (length a.held.now) a.noted _ c.in-Two.is c.requires.1)
 
 pub returns-in-Zero : goal.returns-in-Zero
 returns-in-Zero c = rw c.in-Zero.is (c.is_blank.ensures ∙ blank_zero _ _)

@@ -14,11 +14,11 @@ returns-in-One c = rw c.in-One.is
 
 pub returns-in-Two : goal.returns-in-Two
 unfolding notes_fit
-returns-in-Two c = rw c.in-One.is
+returns-in-Two c = rw c.in-Two.is
 
 pub returns-in-Three : goal.returns-in-Three
 unfolding notes_fit
-returns-in-Three c = rw c.in-One.is
+returns-in-Three c = rw c.in-Three.is
 
 pub returns-in-Four : goal.returns-in-Four
 unfolding notes_fit

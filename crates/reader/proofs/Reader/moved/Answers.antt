@@ -12,7 +12,7 @@ pub returns-then-byte-base : goal.returns-then-byte-base
 returns-then-byte-base c = let a = c.args in c.outside.ensures ∙ ap (moved_by a.self (position_at a.line a.byte)) (held_before a.self a.byte.0 (omega arith))
 
 pub returns-then-self-place : goal.returns-then-self-place
-returns-then-self-place c = let a = c.args in c.outside.ensures ∙ ap (moved_by a.self (position_at a.line a.byte)) (held_behind a.self a.byte.0 (omega arith) (omega arith))
+returns-then-self-place c = let a = c.args in c.outside-then-self-place.ensures ∙ ap (moved_by a.self (position_at a.line a.byte)) (held_behind a.self a.byte.0 (omega arith) (omega arith))
 
 pub returns : goal.returns
 returns c = let a = c.args in ap (moved_by a.self (position_at a.line a.byte)) (held_inside a.self a.byte.0 (omega arith) (omega arith))
