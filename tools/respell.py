@@ -133,7 +133,7 @@ def main():
         else:
             new = change(old)
         if f.endswith("reading/specs/Bytes.antt") or re.search(r"use Rattle\.reading\.specs\.Bytes\.\{[^}]*\bAt\b", new):
-            new = re.sub(r"\bAt\b", "AT", new)
+            new = re.sub(r"(?<![.])\bAt\b", "AT", new)
         if f.startswith("crates/text/"):
             new = re.sub(r"\bZero\b", "ZERO", new)
         if new != old:

@@ -123,7 +123,7 @@ ends_empty [] h = refl
 ends_empty (b ∷ s) h = absurd (omega (arith, h))
 
 -- a field with an LF isn't good
-pub field_line : (s : List ℕ) (i : ℕ) → line_from s 0 ≡ Found.AT i → false ≡ good_field s
+pub field_line : (s : List ℕ) (i : ℕ) → line_from s 0 ≡ Found.At i → false ≡ good_field s
 unfolding good_field
 field_line s i e = rw (line_found s 0 i e).ends
 
