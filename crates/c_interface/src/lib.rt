@@ -421,12 +421,7 @@ pub fn fq_open(state: &mut [usize], window: usize) -> usize
 }
 
 // Takes from the chunk; the value is how many bytes.
-pub fn fq_feed(
-    state: &mut [usize],
-    values: &mut [usize],
-    window: &mut [u8],
-    chunk: &[u8],
-) -> usize
+pub fn fq_feed(state: &mut [usize], values: &mut [usize], window: &mut [u8], chunk: &[u8]) -> usize
     ensures answer { Leaves result state.new values.new (feed_call state.old values.old (length window.old) (length chunk.now)) }
     ensures bytes { window.new ≡ feed_window state.old values.old window.old chunk.now }
 {
