@@ -14,6 +14,7 @@ pub enum Found {
 }
 
 // The first LF of `s` at or after `from`; a start past the end finds nothing.
+#[tactic(auto, using(crate::proofs::Laws::line_here, crate::proofs::Laws::line_on, crate::proofs::Laws::line_past))]
 pub fn find_line(s: &[u8], from: usize) -> Found
     ensures { result ≡ line_from s.now from }
 {

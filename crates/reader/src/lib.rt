@@ -546,6 +546,7 @@ fn judged(held: &[u8], r: Record, line: Line, byte: Byte, last: bool) -> Decided
 }
 
 // The answer once the held bytes are searched.
+#[tactic(auto, using(crate::proofs::Nexting::decided_limit, crate::proofs::Nexting::decided_more, crate::proofs::Nexting::decided_tail, crate::proofs::Nexting::decided_judged))]
 fn decide(
     held: &[u8],
     window: usize,

@@ -193,6 +193,7 @@ impl Record {
     }
 
     // The test of a record, in document 01's order.
+    #[tactic(auto, using(crate::proofs::Laws::check_start, crate::proofs::Laws::check_plus, crate::proofs::Laws::check_good, crate::proofs::Laws::check_lengths))]
     pub fn validate(self, window: &[u8]) -> Check
         ensures { result ≡ check_of (validate window.now (five_of self)) }
     {
