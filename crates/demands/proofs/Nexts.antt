@@ -267,7 +267,7 @@ module _ (B : List ℕ) (s : Reader) (w : List ℕ) (t : ℕ) (g : Good B s w t)
                   noted = λ x y. rw q.0 q.1;
                   seeks = λ x. (refl, rw q.1 less);
                 };
-            gives = λ n. due_first n ∙ sym (due_few n B _ G.noted (rw q.1 less));
+            gives = λ n. due_first n ∙ sym (due_few n B (next_with s G (decided_by H s.window s.start s.line.0 s.byte four false)).state G.noted (rw q.1 less));
           }
 
 -- ---- after a record
@@ -313,7 +313,8 @@ module _ (B : List ℕ) (s : Reader) (w : List ℕ) (t : ℕ) (g : Good B s w t)
   settled_hand (unended r) e c d =
       let o = step_unended (take s.fill w) s.window s.start s.line.0 r e in
       (ap (λ (x : Five). x.start) o.numbers, λ y. let z : ◌≡◌ {A = ℕ} 0 1 = cc in absurd (omega arith), λ y. (unended_over r e d, omega (arith, ap length (gathered_listed s.fill (line_ends s.start (slice s.start s.fill w))), length-take 4 (line_ends s.start (slice s.start s.fill w)), ap length (all_seen B s w t g few open'), o.three)))
-  settled_hand (closing a) e c d = closing_hand _ s.byte a c
+  settled_hand (closing a) e c d =
+      closing_hand (next_with s (gathered s.fill (line_ends s.start (slice s.start s.fill w))) (settled_by s.byte (closing a))).state s.byte a c
 
   seeking_hand : Hand (seeking_of s w).state (seeking_of s w).answer
   seeking_hand =
