@@ -39,7 +39,7 @@ fn argument(rt: &impl Env, i: usize, low: u64, default: u64) -> Parsed {
     }
 }
 
-// No argument behind this one is there where it is not.
+// Whether there is an argument of this number: where there is none, none of a higher number is there either.
 fn has_argument(rt: &impl Env, i: usize) -> bool {
     let mut word = [0u8; 1];
     !matches!(rt.arg(i, &mut word), Err(FillError::NotPresent))
