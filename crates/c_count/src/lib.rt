@@ -9,8 +9,7 @@ ghost use Rattle.c_count.specs.Numbers.{number_in, WindowIs};
 use protocol::Counted;
 
 // How many records the input has; where the count is refused with k, the largest number less k.
-#[unsafe(no_mangle)]
-pub extern "C" fn fq_count(input: &[u8], window: &mut [u8], chunk: usize) -> u64
+pub fn fq_count(input: &[u8], window: &mut [u8], chunk: usize) -> u64
     ensures answer { result ≡ number_in (outcome input.now (length window.old) chunk) }
     ensures bytes { WindowIs input.now window.old chunk window.new (outcome input.now (length window.old) chunk) }
 {

@@ -1,7 +1,6 @@
 -- A refused call through the interface leaves the lent state as it was; so does a refused feed the window, and a set call without a set the table.
 -- Assumes nothing.
 use mathlib.Core.Path.{◌≡◌, refl, sym, ap, ◌∙◌}
-use mathlib.Core.Option.{some}
 use mathlib.Core.List.{List}
 use Prim.Native.Nat.{ℕ, ◌<◌, ◌/◌}
 use native.Mathlib.Omega.{arith}
@@ -29,7 +28,7 @@ use Rattle.c_interface.specs.declared.Unpacked.{Unpacked}
 use Rattle.c_interface.specs.declared.Unpacked.TheVariants.{State, Foreign}
 use Rattle.c_interface.specs.Packed.{unpacked_of}
 use Rattle.c_interface.specs.Told.{answer_told, taken_told, ending_told, place_told, reply_told}
-use Rattle.c_interface.specs.Calls.{called_by, called, memory_by, memory, feed_call, feed_window, finish_call, next_call, seek_call, set_call, set_table, to}
+use Rattle.c_interface.specs.Calls.{called, memory_by, memory, feed_call, feed_window, finish_call, next_call, seek_call, set_call, set_table, to}
 use Rattle.c_interface.proofs.Packing.{called_keeps}
 
 -- the code of a call on a state that is lent is what it tells

@@ -1,7 +1,7 @@
 -- Laws of the views' offsets: where a view stands, and that it lies in the window.
 -- Assumes nothing.
 use mathlib.Core.Path.{◌≡◌, refl, sym, ap, ◌∙◌}
-use mathlib.Core.Bool.{Bool, true, false, not, cond}
+use mathlib.Core.Bool.{Bool, true, false, cond}
 use mathlib.Core.Option.{Option, none, some}
 use mathlib.Core.List.{List}
 use Prim.Native.Nat.{ℕ, ◌+◌, ◌-◌, ◌≤◌, ◌<◌}
@@ -15,7 +15,7 @@ use Rattle.reading.specs.Bytes.{byte_at, trim_cr, id_length, CR}
 use Rattle.reading.specs.Reading.{head_of, desc_in}
 use Rattle.record.specs.Views as views
 use Rattle.record.specs.Views.{View, view, view_test, head_view, seq_view, qual_view, id_view, desc_by, desc_view, present, has_desc}
-use Rattle.record.proofs.Views.{Fits, fits_facts}
+use Rattle.record.proofs.Views.{fits_facts}
 use Rattle.c_interface.specs.declared.Told.{Told}
 use Rattle.c_interface.specs.Told.{briefly, values_of}
 use Rattle.c_interface.specs.Shown.{view_of, placed, placed_by, Shown, view_call}

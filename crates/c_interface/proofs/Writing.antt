@@ -1,6 +1,6 @@
 -- Laws of a write through the interface.
 -- Assumes nothing.
-use mathlib.Core.Path.{◌≡◌, refl, ap, ◌∙◌}
+use mathlib.Core.Path.{◌≡◌, refl, ap}
 use mathlib.Core.Option.{Option}
 use mathlib.Core.List.{List}
 use Prim.Native.Nat.{ℕ, ◌≤◌, ◌<◌}
@@ -8,10 +8,10 @@ use lib.ListN.{length}
 use lib.Seq.{sets}
 use borrow.Author.Tests.{lt-ltb, le-ltb}
 use Rattle.writer.specs.declared.Written.{Written}
-use Rattle.writer.specs.Answer.{Writes, answer}
+use Rattle.writer.specs.Answer.{Writes}
 use Rattle.c_interface.specs.declared.Told.{Told}
 use Rattle.c_interface.specs.Told.{values_of, written_told}
-use Rattle.c_interface.specs.Writes.{Puts, put_of, writing}
+use Rattle.c_interface.specs.Writes.{Puts, writing}
 
 module _ (v : List ℕ) (first : Option ℕ) (out : List ℕ) (at : ℕ) (bs : List ℕ) where
   pub write_short : length v < 6 → Puts 2 v out (writing v first out at bs)

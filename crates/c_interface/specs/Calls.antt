@@ -1,6 +1,6 @@
 -- What a call through the interface answers, and what it leaves in the lent numbers.
 -- Assumes nothing.
-use Rattle.std.specs.Prelude.{ℕ, ◌≡◌, Bool, true, false, List, [], ◌∷◌, length, ltb}
+use Rattle.std.specs.Prelude.{ℕ, ◌≡◌, Bool, true, false, List, length, ltb}
 use Rattle.std.proofs.lemmas.List.Edits.{sets}
 use Rattle.reader.specs.declared.Reader.{Reader}
 use Rattle.reader.specs.declared.Position.{Position}

@@ -2,8 +2,8 @@
 // A state is lent as 14 numbers, what a call answers as a code and 6 numbers; c_interface.h has their order.
 #![tactic(auto)]
 
-mod views;
-mod writes;
+pub mod views;
+pub mod writes;
 
 ghost use Rattle.std.specs.Prelude.{◌≡◌, ◌≤◌, ◌/◌, length};
 ghost use Rattle.std.proofs.lemmas.List.Edits.{sets};
@@ -404,8 +404,7 @@ fn leave(state: &mut [usize], values: &mut [usize], s: Reader, t: Told) -> usize
 }
 
 // A fresh state for windows of this length.
-#[unsafe(no_mangle)]
-pub extern "C" fn fq_open(state: &mut [usize], window: usize) -> usize
+pub fn fq_open(state: &mut [usize], window: usize) -> usize
     ensures { Begins result state.new (open_call state.old window) }
 {
     if state.len() < STATE {
@@ -422,13 +421,7 @@ pub extern "C" fn fq_open(state: &mut [usize], window: usize) -> usize
 }
 
 // Takes from the chunk; the value is how many bytes.
-#[unsafe(no_mangle)]
-pub extern "C" fn fq_feed(
-    state: &mut [usize],
-    values: &mut [usize],
-    window: &mut [u8],
-    chunk: &[u8],
-) -> usize
+pub fn fq_feed(state: &mut [usize], values: &mut [usize], window: &mut [u8], chunk: &[u8]) -> usize
     ensures answer { Leaves result state.new values.new (feed_call state.old values.old (length window.old) (length chunk.now)) }
     ensures bytes { window.new ≡ feed_window state.old values.old window.old chunk.now }
 {
@@ -446,8 +439,7 @@ pub extern "C" fn fq_feed(
 }
 
 // Notes the end of the input.
-#[unsafe(no_mangle)]
-pub extern "C" fn fq_finish(state: &mut [usize], values: &mut [usize], window: &[u8]) -> usize
+pub fn fq_finish(state: &mut [usize], values: &mut [usize], window: &[u8]) -> usize
     ensures { Leaves result state.new values.new (finish_call state.old values.old (length window.now)) }
 {
     let u = unpack(state, values.len());
@@ -464,8 +456,7 @@ pub extern "C" fn fq_finish(state: &mut [usize], values: &mut [usize], window: &
 }
 
 // The next answer.
-#[unsafe(no_mangle)]
-pub extern "C" fn fq_next(state: &mut [usize], values: &mut [usize], window: &[u8]) -> usize
+pub fn fq_next(state: &mut [usize], values: &mut [usize], window: &[u8]) -> usize
     ensures { Leaves result state.new values.new (next_call state.old values.old window.now) }
 {
     let u = unpack(state, values.len());
@@ -482,8 +473,7 @@ pub extern "C" fn fq_next(state: &mut [usize], values: &mut [usize], window: &[u
 }
 
 // To another line and byte; with FEED_FROM the value is the byte to feed from.
-#[unsafe(no_mangle)]
-pub extern "C" fn fq_seek(
+pub fn fq_seek(
     state: &mut [usize],
     values: &mut [usize],
     window: &[u8],
@@ -512,8 +502,7 @@ pub extern "C" fn fq_seek(
 }
 
 // The position: its line and its byte.
-#[unsafe(no_mangle)]
-pub extern "C" fn fq_position(state: &[usize], values: &mut [usize]) -> usize
+pub fn fq_position(state: &[usize], values: &mut [usize]) -> usize
     ensures { Leaves result state.now values.new (position_call state.now values.old) }
 {
     let u = unpack(state, values.len());
@@ -531,8 +520,7 @@ pub extern "C" fn fq_position(state: &[usize], values: &mut [usize]) -> usize
 }
 
 // Lists as many records as there are and the table has whole entries for; the value is how many.
-#[unsafe(no_mangle)]
-pub extern "C" fn fq_read_record_set(
+pub fn fq_read_record_set(
     state: &mut [usize],
     values: &mut [usize],
     window: &[u8],
@@ -555,8 +543,7 @@ pub extern "C" fn fq_read_record_set(
 }
 
 // Lists at most so many records.
-#[unsafe(no_mangle)]
-pub extern "C" fn fq_read_record_set_exact(
+pub fn fq_read_record_set_exact(
     state: &mut [usize],
     values: &mut [usize],
     window: &[u8],

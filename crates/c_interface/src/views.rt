@@ -69,8 +69,7 @@ fn view_told(which: usize, window: &[u8], r: Record) -> Told
 }
 
 // The offset and the length of a view, of a record by its five numbers.
-#[unsafe(no_mangle)]
-pub extern "C" fn fq_view(
+pub fn fq_view(
     values: &mut [usize],
     window: &[u8],
     which: usize,

@@ -19,8 +19,7 @@ fn written_told(answer: Written) -> Told
 }
 
 // A record's four lines.
-#[unsafe(no_mangle)]
-pub extern "C" fn fq_write_to(
+pub fn fq_write_to(
     values: &mut [usize],
     out: &mut [u8],
     at: usize,
@@ -40,8 +39,7 @@ pub extern "C" fn fq_write_to(
 }
 
 // The same with a head of an id, and of a space and a description where one is given.
-#[unsafe(no_mangle)]
-pub extern "C" fn fq_write_parts(
+pub fn fq_write_parts(
     values: &mut [usize],
     out: &mut [u8],
     at: usize,
@@ -63,8 +61,7 @@ pub extern "C" fn fq_write_parts(
 }
 
 // The window's bytes from a record's start to its end, and LF.
-#[unsafe(no_mangle)]
-pub extern "C" fn fq_write_unchanged(
+pub fn fq_write_unchanged(
     values: &mut [usize],
     out: &mut [u8],
     at: usize,

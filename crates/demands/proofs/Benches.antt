@@ -2,14 +2,14 @@
 -- Assumes nothing.
 use Prim.Native.Nat.{ℕ, ◌+◌, ◌-◌, ◌≤◌}
 use native.Mathlib.Omega.{arith}
-use mathlib.Core.Path.{◌≡◌, refl, sym, ap, ◌∙◌}
+use mathlib.Core.Path.{◌≡◌, sym, ap, ◌∙◌}
 use mathlib.Core.List.{List}
 use lib.ListN.{length, take}
-use Rattle.reading.specs.Reading.{first as first_of, reading}
-use Rattle.reading.specs.Lists.{kept, SameOrOn}
+use Rattle.reading.specs.Reading.{first as first_of}
+use Rattle.reading.specs.Lists.{kept}
 use Rattle.reading.proofs.Readings.{first_front}
 use Rattle.reading.proofs.Limits.{first_wider, reading_wider}
-use Rattle.demands.specs.Runs.{Bench, Call, Calls, here, then, Opened, Run, Benches, both, first, second, Agree}
+use Rattle.demands.specs.Runs.{Bench, Calls, here, then, Opened, Run, Benches, both, first, second, Agree}
 use Rattle.demands.proofs.Chunks.{answers_are_the_readings}
 
 first_calls : {B : List ℕ} {a₀ b₀ a b : Bench} → Benches B a₀ b₀ a b → Calls B a₀ a

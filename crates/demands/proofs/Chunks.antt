@@ -1,9 +1,9 @@
 -- CHUNKS DON'T MATTER: the answers of a user's run are the first answers of the whole-file reading.
 -- Assumes nothing.
-use Prim.Native.Nat.{ℕ, zero, suc, ◌+◌, ◌-◌, ◌≤◌, ◌<◌}
+use Prim.Native.Nat.{ℕ, zero, suc, ◌+◌, ◌-◌, ◌≤◌}
 use native.Mathlib.Omega.{arith}
 use native.Mathlib.Nat.{add-zero, zero-add}
-use mathlib.Core.Path.{◌≡◌, refl, sym, ap, ◌∙◌, subst}
+use mathlib.Core.Path.{◌≡◌, sym, ap, ◌∙◌}
 use mathlib.Core.Bool.{Bool, true, false, ◌&&◌}
 use mathlib.Core.Option.{Option, none, some}
 use mathlib.Core.List.{List, [], ◌∷◌, ◌++◌, append_assoc, append-nil}
@@ -12,18 +12,18 @@ use lib.Seq.{take-take}
 use lib.Dec.{leb}
 use Rattle.reading.specs.Answer.{Told}
 use Rattle.reading.specs.Answer as read
-use Rattle.reading.specs.Reading.{first, reading, padded}
+use Rattle.reading.specs.Reading.{first}
 use Rattle.reading.proofs.Readings.{first_front}
 use Rattle.reader.specs.declared.Reader.{Reader}
-use Rattle.reader.specs.declared.Opened.TheVariants.{Fresh, Refused}
+use Rattle.reader.specs.declared.Opened.TheVariants.{Fresh}
 use Rattle.reader.specs.State.{smallest, largest, fresh_of, open_by, open_of}
 use Rattle.reader.specs.Feed.{feed_of}
 use Rattle.reader.specs.Next.{next_of}
 use Rattle.reader.specs.Seek.{base}
 use Rattle.demands.specs.Runs.{heard_of, placed, add_to, took_of, Bench, fed, finished, asked, Call, feed, finish, next, Calls, here, then, Opened, Run}
 use Rattle.demands.proofs.Standing.{Good, due, due_zero, fresh_good}
-use Rattle.demands.proofs.Nexts.{Gives, Served, next_served}
-use Rattle.demands.proofs.Feeds.{Kept, finish_kept, feed_kept, took_some}
+use Rattle.demands.proofs.Nexts.{Gives, next_served}
+use Rattle.demands.proofs.Feeds.{finish_kept, feed_kept, took_some}
 
 -- ---- calls by what was taken: a chunk may go on with any bytes past those
 

@@ -3,7 +3,7 @@
 -- `mixed_answers_are_the_readings` are such statements already.) Assumes nothing.
 use Prim.Native.Nat.{ℕ, ◌+◌, ◌<◌, ◌≤◌}
 use mathlib.Core.Path.{◌≡◌}
-use mathlib.Core.Bool.{Bool, true, false}
+use mathlib.Core.Bool.{true, false}
 use mathlib.Core.Logic.{◌↔◌}
 use mathlib.Core.Option.{some}
 use mathlib.Core.List.{List}

@@ -1,10 +1,10 @@
 -- ANSWERS STAND: what was answered before the end is announced stands whatever bytes follow.
 -- Assumes nothing.
-use Prim.Native.Nat.{ℕ, zero, suc, ◌+◌, ◌-◌, ◌≤◌, ◌<◌, min}
+use Prim.Native.Nat.{ℕ, ◌+◌, ◌-◌, ◌≤◌, min}
 use native.Mathlib.Omega.{arith}
 use mathlib.Core.Path.{◌≡◌, refl, sym, ap, ◌∙◌, subst}
 use mathlib.Core.Bool.{Bool, true, false}
-use mathlib.Core.List.{List, [], ◌∷◌, ◌++◌}
+use mathlib.Core.List.{List, ◌++◌}
 use lib.ListN.{length, take, drop, length-take, length-drop}
 use lib.Seq.{take-take, take_at, length-take-le}
 use lib.Dec.{leb}
@@ -14,10 +14,10 @@ use Rattle.record.specs.declared.Noted.{Noted}
 use Rattle.record.specs.declared.Noted.TheVariants.{Zero, One, Two, Three, Four}
 use Rattle.reader.specs.declared.Reader.{Reader}
 use Rattle.reader.specs.State.{most_bytes, own}
-use Rattle.reader.specs.Feed.{held_of, taken_of, moves, front_if, filled, taking_by, taking_of, feed_by, feed_of, finish_by, finish_of}
-use Rattle.reader.specs.Next.{onward_by, onward_of, seeking_of, next_by, next_of}
-use Rattle.demands.specs.Runs.{took_of, Bench, fed, finished, asked, Call, feed, finish, next, Calls, here, then, Opened, Run}
-use Rattle.demands.proofs.Chunks.{Step, feeds, finishes, asks, Steps, still, more, call_step, front_of_lem, Stands, heard_due, opened_stands, opened_due}
+use Rattle.reader.specs.Feed.{held_of, taken_of, moves, front_if, taking_by, taking_of, feed_by, feed_of, finish_by, finish_of}
+use Rattle.reader.specs.Next.{onward_by, seeking_of, next_by, next_of}
+use Rattle.demands.specs.Runs.{took_of, Bench, feed, finish, next, Calls, here, then, Run}
+use Rattle.demands.proofs.Chunks.{feeds, asks, Steps, still, more, front_of_lem, heard_due, opened_stands, opened_due}
 use Rattle.demands.proofs.Feeds.{took_some}
 
 -- ---- the calls and the noted end

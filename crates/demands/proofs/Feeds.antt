@@ -1,6 +1,6 @@
 -- Feed and finish, over a reader and a window that stand for a reading of B, leave a reader and a window that stand for it, with the same answers due.
 -- Assumes nothing.
-use Prim.Native.Nat.{ℕ, zero, suc, ◌+◌, ◌-◌, ◌≤◌, ◌<◌, min}
+use Prim.Native.Nat.{ℕ, suc, ◌+◌, ◌-◌, ◌≤◌, ◌<◌, min}
 use native.Mathlib.Omega.{arith}
 use native.Mathlib.Nat.{add-zero, sub-zero}
 use mathlib.Core.Path.{◌≡◌, refl, sym, ap, ap₂, ◌∙◌, subst}
@@ -8,7 +8,7 @@ use mathlib.Core.Bool.{Bool, true, false}
 use mathlib.Core.List.{List, [], ◌∷◌, ◌++◌, map, append_assoc}
 use lib.ListN.{length, take, drop, length-append, length-take, length-drop, length-map}
 use lib.Seq.{slice, take_at, take-add, take-take, drop-drop, length-take-le, length-slice, take-append-le}
-use lib.Dec.{leb, ltb}
+use lib.Dec.{leb}
 use borrow.Author.Tests.{leb-true, ltb-false}
 use Rattle.reading.specs.Bytes.{line_ends}
 use Rattle.reading.specs.Reading.{first}
@@ -19,12 +19,11 @@ use Rattle.record.specs.declared.Noted.TheVariants.{Zero, One, Two, Three, Four}
 use Rattle.record.specs.Noted.{listed}
 use Rattle.reader.specs.declared.Reader.{Reader}
 use Rattle.reader.specs.declared.Taken.{Taken}
-use Rattle.reader.specs.declared.Taken.TheVariants as taken
 use Rattle.reader.specs.State.{most_bytes, own, Notes}
 use Rattle.reader.specs.Feed.{held_of, taken_of, notes_from, filled, front_of, moves, front_if, taking_by, taking_of, feed_by, feed_of, kept_by, landed_on, landed, fed_by, fed_window, ended_of, finish_by, finish_of}
 use Rattle.reader.proofs.Nexting.{notes_mark}
 use Rattle.demands.specs.Runs.{took_of}
-use Rattle.demands.proofs.Standing.{Holds, Good, good_owned, due_by, due, due_few}
+use Rattle.demands.proofs.Standing.{Holds, Good, due_by, due, due_few}
 
 -- ---- finish
 

@@ -1,21 +1,20 @@
 -- FIELDS: the bytes that each view shows through the window at an answered record are those of the reading's field in the input.
 -- Assumes nothing.
-use Prim.Native.Nat.{ℕ, zero, suc, ◌+◌, ◌-◌, ◌≤◌, ◌<◌, min}
+use Prim.Native.Nat.{ℕ, suc, ◌+◌, ◌-◌, ◌≤◌, ◌<◌}
 use native.Mathlib.Omega.{arith}
 use native.Mathlib.Decide.{dec_le}
 use mathlib.Core.Path.{◌≡◌, refl, sym, ap, ◌∙◌, subst}
-use mathlib.Core.Bool.{Bool, true, false, ◌&&◌}
-use mathlib.Core.List.{List, [], ◌∷◌}
-use lib.ListN.{length, get_or, take, drop, length-take, length-drop}
+use mathlib.Core.Bool.{Bool, true, false}
+use mathlib.Core.List.{List}
+use lib.ListN.{length, get_or, take, drop}
 use lib.Seq.{slice, take-take, get_or-take, get_or-drop, length-take-le}
-use lib.Dec.{leb}
 use borrow.Author.Tests.{le-leb, eqb-true}
 use Rattle.reading.specs.Bytes.{LF, AT, PLUS, byte_at, line_ends, trim_cr}
 use Rattle.reading.specs.Shift.{shift_five}
 use Rattle.reading.specs.Answer.{Five}
 use Rattle.reading.specs.Answer as read
 use Rattle.reading.specs.Lists.{is_found}
-use Rattle.reading.specs.Reading.{Verdict, good, bad_start, bad_separator, bad_lengths, starts_well, has_plus, lengths_agree, verdict, validate, head_of, seq_of, qual_of, id_in, desc_in, seen, rest, record_of, Step, onward, unended, closing, step_at}
+use Rattle.reading.specs.Reading.{good, starts_well, has_plus, lengths_agree, verdict, validate, head_of, seq_of, qual_of, desc_in, seen, record_of, Step, onward, unended, closing, step_at}
 use Rattle.reading.proofs.Lines.{line_ends_hold}
 use Rattle.reading.proofs.Steps.{seen_low, seen_high, seen_rises, step_onward, step_unended}
 use Rattle.reading.proofs.Readings.{ClosesWell, step_closes}
@@ -25,7 +24,7 @@ use mathlib.Core.Option.{Option, none, some}
 use Rattle.record.specs.declared.Record.{Record as Rec}
 use Rattle.record.specs.declared.Noted.{Noted}
 use Rattle.record.specs.declared.Noted.TheVariants.{Zero, One, Two, Three, Four}
-use Rattle.record.specs.Views.{view_test, View, view_by, head_view, seq_view, qual_view, id_view, desc_by, desc_view, present, has_desc}
+use Rattle.record.specs.Views.{view_test, head_view, seq_view, qual_view, id_view, desc_by, desc_view, has_desc}
 use Rattle.record.proofs.Views.{fits_facts}
 use Rattle.reader.specs.declared.Byte.{Byte}
 use Rattle.reader.specs.declared.Reader.{Reader}

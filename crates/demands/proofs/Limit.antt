@@ -1,12 +1,12 @@
 -- WINDOW LIMIT EXACTLY WHEN, carried to the answers of runs.
 -- Assumes nothing.
-use Prim.Native.Nat.{ℕ, zero, suc, ◌+◌}
+use Prim.Native.Nat.{ℕ}
 use native.Mathlib.Omega.{arith}
 use mathlib.Core.Path.{◌≡◌, refl, sym, ap, ◌∙◌, subst}
-use mathlib.Core.Bool.{Bool, true, false}
+use mathlib.Core.Bool.{true, false}
 use mathlib.Core.Logic.{◌↔◌}
-use mathlib.Core.Option.{Option, none, some}
-use mathlib.Core.List.{List, [], ◌∷◌}
+use mathlib.Core.Option.{Option, some}
+use mathlib.Core.List.{List, ◌∷◌}
 use lib.ListN.{length}
 use Rattle.reading.specs.Answer.{found, window_limit, ended, Told, told}
 use Rattle.reading.specs.Answer as read

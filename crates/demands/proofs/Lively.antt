@@ -1,14 +1,14 @@
 -- NOTHING IS HELD BACK: every answer of the reading is reached, and a request is answered by at least one byte taken.
 -- Assumes nothing.
-use Prim.Native.Nat.{ℕ, zero, suc, ◌+◌, ◌-◌, ◌≤◌, ◌<◌, min}
+use Prim.Native.Nat.{ℕ, zero, suc, ◌+◌, ◌-◌, ◌≤◌, ◌<◌}
 use native.Mathlib.Omega.{arith}
 use native.Mathlib.Decide.{dec_le}
 use native.Mathlib.Nat.{add-zero, zero-add}
-use mathlib.Core.Path.{◌≡◌, refl, sym, ap, ◌∙◌, subst}
-use mathlib.Core.Bool.{Bool, true, false}
+use mathlib.Core.Path.{◌≡◌, refl, sym, ap, ◌∙◌}
+use mathlib.Core.Bool.{true, false}
 use mathlib.Core.Logic.{◌⊎◌, inl, inr}
-use mathlib.Core.Option.{Option, none, some}
-use mathlib.Core.List.{List, [], ◌∷◌, ◌++◌}
+use mathlib.Core.Option.{Option, some}
+use mathlib.Core.List.{List, [], ◌∷◌}
 use lib.ListN.{length, take, drop, length-append, length-take, length-drop}
 use lib.Seq.{take-length}
 use Rattle.reading.specs.Answer.{Told}
@@ -19,17 +19,16 @@ use Rattle.reader.specs.declared.Opened.TheVariants.{Fresh}
 use Rattle.reader.specs.declared.Taken.TheVariants as taken
 use Rattle.reader.specs.declared.Answer.{Answer}
 use Rattle.reader.specs.declared.Answer.TheVariants.{Record, More, WindowLimit, InvalidStart, InvalidSeparator, UnequalLengths, UnexpectedEnd, End, Refused}
-use Rattle.reader.specs.State.{most_bytes, open_of, fresh_of, own}
+use Rattle.reader.specs.State.{most_bytes, open_of, fresh_of}
 use Rattle.reader.specs.Feed.{held_of, taken_of, feed_of, taking_of, finish_of}
 use Rattle.reader.specs.Next.{next_of}
 use Rattle.reader.specs.Seek.{base}
-use Rattle.reader.proofs.Owning.{own_true}
 use Rattle.reader.proofs.Refusals.{next_refused}
 use Rattle.reader.specs.Waiting.{Wants}
 use Rattle.reader.proofs.Waiting.{next_wants, ended_answers}
 use borrow.Author.Tests.{le-leb}
-use Rattle.demands.specs.Runs.{heard_of, placed, add_to, took_of, Bench, fed, finished, asked, Call, feed, finish, next, Calls, here, then, Opened, Run, Attended, begins, hears, serves, closes}
-use Rattle.demands.proofs.Standing.{Good, good_own, good_owned}
+use Rattle.demands.specs.Runs.{heard_of, placed, add_to, took_of, Bench, fed, finished, asked, feed, finish, next, Calls, here, then, Opened, Run, Attended, begins, hears, serves, closes}
+use Rattle.demands.proofs.Standing.{good_own, good_owned}
 use Rattle.demands.proofs.Chunks.{Stands, front_of_lem, call_step, step_stands, calls_steps, steps_stand, opened_stands, answers_are_the_readings}
 use Rattle.demands.proofs.Feeds.{took_some}
 use Rattle.demands.proofs.Early.{next_ended}

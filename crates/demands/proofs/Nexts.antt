@@ -1,40 +1,39 @@
 -- Next, over a reader and a window that stand for a reading of B, gives the answer that is due, and leaves a reader that stands for it.
 -- Assumes nothing.
-use Prim.Native.Nat.{ℕ, zero, suc, ◌+◌, ◌-◌, ◌≤◌, ◌<◌, min}
+use Prim.Native.Nat.{ℕ, suc, ◌+◌, ◌-◌, ◌≤◌, ◌<◌}
 use native.Mathlib.Omega.{arith}
-use native.Mathlib.Nat.{le_refl}
-use mathlib.Core.Path.{◌≡◌, refl, sym, ap, ◌∙◌, subst}
+use mathlib.Core.Path.{◌≡◌, refl, sym, ap, ◌∙◌}
 use mathlib.Core.Bool.{Bool, true, false, ◌||◌, or-false}
 use mathlib.Core.Option.{Option, none, some}
 use mathlib.Core.List.{List, [], ◌∷◌, ◌++◌, append-nil}
 use lib.ListN.{length, get_or, take, drop, length-take, length-drop, take-append-drop, drop_of_length-le}
-use lib.Seq.{slice, length-slice, drop-append-le, take_all, length-take-le, take-take, get_or-take}
+use lib.Seq.{slice, length-slice, drop-append-le, take_all, length-take-le, take-take}
 use lib.Dec.{leb}
 use borrow.Author.Tests.{leb-true, leb-false, le-leb, lt-leb}
 use Rattle.reading.specs.Bytes.{line_ends}
 use Rattle.reading.specs.Answer.{Five, Id, absent, range, found, window_limit, invalid_start, invalid_separator, unequal_lengths, unexpected_end, ended, Told, told}
 use Rattle.reading.specs.Answer as read
-use Rattle.reading.specs.Reading.{Step, onward, unended, closing, rest, seen, record_of, step_with, step_at, settled, first, ends}
+use Rattle.reading.specs.Reading.{Step, onward, unended, closing, rest, seen, step_with, step_at, first}
 use Rattle.reading.specs.Lists.{is_found, is_limit}
-use Rattle.reading.specs.Shift.{shift_five, shift_id, shift}
+use Rattle.reading.specs.Shift.{shift}
 use Rattle.reading.proofs.Lines.{line_ends-append}
-use Rattle.reading.proofs.Steps.{Onward, step_onward, step_unended}
+use Rattle.reading.proofs.Steps.{step_onward, step_unended}
 use Rattle.reading.proofs.Stable.{step_prefix, step_notes}
-use Rattle.reading.proofs.Readings.{first_by, first_suc, ClosesWell, step_closes}
+use Rattle.reading.proofs.Readings.{first_suc, ClosesWell, step_closes}
 use Rattle.reading.proofs.Limits.{limit_here}
 use Rattle.reading.proofs.Shifted.{shift_step, step_shift}
 use Rattle.record.specs.declared.Noted.{Noted}
 use Rattle.record.specs.declared.Noted.TheVariants.{Zero, One, Two, Three, Four}
 use Rattle.record.specs.declared.Sought.{Sought}
-use Rattle.record.specs.Noted.{listed, after, gathered, sought_by, sought_of}
-use Rattle.record.specs.Check.{five_of, record_at, range_of}
+use Rattle.record.specs.Noted.{listed, after, gathered, sought_of}
+use Rattle.record.specs.Check.{range_of}
 use Rattle.reader.specs.declared.Byte.{Byte}
 use Rattle.reader.specs.declared.Reader.{Reader}
 use Rattle.reader.specs.declared.Answer.{Answer}
 use Rattle.reader.specs.declared.Answer.TheVariants.{Record, More, WindowLimit, InvalidStart, InvalidSeparator, UnequalLengths, UnexpectedEnd, End, Refused}
 use Rattle.reader.specs.declared.Next.{Next}
-use Rattle.reader.specs.State.{most_bytes, state_of, Notes, own}
-use Rattle.reader.specs.Next.{answer_of, deciding, settles, settled_by, decided_by, decided_of, onward_of, next_with, searched_of, seeking_of, closed_of, next_by, next_of}
+use Rattle.reader.specs.State.{state_of, Notes}
+use Rattle.reader.specs.Next.{answer_of, settles, settled_by, decided_by, decided_of, onward_of, next_with, searched_of, seeking_of, closed_of, next_by, next_of}
 use Rattle.reader.specs.Seek.{base}
 use Rattle.reader.proofs.Nexting.{gathered_listed, ends_notes, notes_mark}
 use Rattle.demands.specs.Runs.{id_of, heard_of, placed}

@@ -1,19 +1,16 @@
 -- Which calls of a run are refused.
 -- Assumes nothing.
-use Prim.Native.Nat.{ℕ, ◌+◌, ◌-◌, ◌≤◌, ◌<◌, min}
+use Prim.Native.Nat.{ℕ, ◌+◌, ◌-◌, ◌≤◌}
 use native.Mathlib.Omega.{arith}
-use mathlib.Core.Path.{◌≡◌, refl, sym, ap, ◌∙◌}
-use mathlib.Core.Bool.{Bool, true, false}
+use mathlib.Core.Path.{◌≡◌, ap}
+use mathlib.Core.Bool.{true}
 use mathlib.Core.List.{List}
 use lib.ListN.{length, take, drop, length-take, length-drop}
-use lib.Dec.{leb}
 use borrow.Author.Tests.{le-leb}
 use Rattle.reader.specs.declared.Reader.{Reader}
-use Rattle.reader.specs.declared.Taken.TheVariants as taken
-use Rattle.reader.specs.declared.Ending.TheVariants as ending
 use Rattle.reader.specs.declared.Answer.TheVariants.{Refused}
 use Rattle.reader.specs.State.{most_bytes, own}
-use Rattle.reader.specs.Feed.{held_of, taken_of, feed_by, feed_of, taking_of, finish_by, finish_of}
+use Rattle.reader.specs.Feed.{held_of, taken_of, feed_of, taking_of, finish_of}
 use Rattle.reader.specs.Next.{next_of}
 use Rattle.reader.proofs.Refusals.{next_refused}
 use Rattle.demands.specs.Runs.{Bench, Run, FeedIs, FinishIs}

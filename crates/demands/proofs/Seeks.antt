@@ -1,20 +1,19 @@
 -- SEEK: after a seek the answers are the whole-file reading from that line and byte.
 -- Assumes nothing.
-use Prim.Native.Nat.{ℕ, zero, suc, ◌+◌, ◌-◌, ◌≤◌, ◌<◌}
+use Prim.Native.Nat.{ℕ, ◌+◌, ◌-◌, ◌≤◌}
 use native.Mathlib.Omega.{arith}
-use native.Mathlib.Nat.{sub-zero, add-zero}
 use mathlib.Core.Path.{◌≡◌, refl, sym, ap, ◌∙◌}
 use mathlib.Core.Bool.{Bool, true, false, ◌&&◌}
-use mathlib.Core.List.{List, []}
-use lib.ListN.{length, take, drop}
-use lib.Seq.{slice, slice_empty}
+use mathlib.Core.List.{List}
+use lib.ListN.{length}
+use lib.Seq.{slice_empty}
 use lib.Dec.{leb, ltb}
 use borrow.Author.Tests.{leb-true, ltb-true}
 use Rattle.reading.specs.Bytes.{line_ends}
 use Rattle.reading.specs.Reading.{first}
 use Rattle.reader.specs.declared.Reader.{Reader}
 use Rattle.reader.specs.declared.Position.{Position}
-use Rattle.reader.specs.State.{most_bytes, own}
+use Rattle.reader.specs.State.{most_bytes}
 use Rattle.reader.specs.Seek.{base, is_held, moved_by, seek_by, seek_of}
 use Rattle.reader.proofs.Owning.{both}
 use Rattle.demands.specs.Runs.{Bench, Calls, Opened, reached_by, is_refused, sought, Roams, stays, calls, seeks}

@@ -6,9 +6,9 @@ use native.Mathlib.Nat.{zero-add, suc-add, add-zero, le_refl}
 use mathlib.Core.Path.{◌≡◌, refl, sym, ap, ◌∙◌, subst}
 use mathlib.Core.Bool.{Bool, true, false}
 use mathlib.Core.Option.{Option, none, some}
-use mathlib.Core.List.{List, [], ◌∷◌, ◌++◌, map, append_assoc, append-nil}
-use lib.ListN.{length, take, drop, length-append, length-drop, length-map}
-use lib.Seq.{slice, slice_empty}
+use mathlib.Core.List.{List, [], ◌∷◌, ◌++◌, append_assoc, append-nil}
+use lib.ListN.{length, drop, length-append, length-drop, length-map}
+use lib.Seq.{slice_empty}
 use lib.Dec.{eqb}
 use Rattle.reading.specs.Bytes.{line_ends}
 use Rattle.reading.specs.Answer.{found, ended, Told, told}
@@ -20,25 +20,23 @@ use Rattle.record.specs.declared.Noted.TheVariants.{Zero, One, Two, Three, Four}
 use Rattle.record.specs.declared.Record.{Record as Rec}
 use Rattle.record.specs.Noted.{listed}
 use Rattle.record.specs.Check.{five_of}
-use Rattle.record.specs.Views.{view_test}
 use Rattle.record.proofs.Views.{fits_facts}
 use Rattle.reader.specs.declared.Reader.{Reader}
 use Rattle.reader.specs.declared.Answer.{Answer}
 use Rattle.reader.specs.declared.Answer.TheVariants.{Record, More, WindowLimit, InvalidStart, InvalidSeparator, UnequalLengths, UnexpectedEnd, End, Refused}
-use Rattle.reader.specs.State.{most_bytes, own, Notes}
+use Rattle.reader.specs.State.{own, Notes}
 use Rattle.reader.specs.Next.{next_of}
 use Rattle.reader.specs.declared.Position.{Position}
 use Rattle.reader.specs.Seek.{base, seek_of}
-use Rattle.reader.proofs.Owning.{notes_at}
 use Rattle.sets.specs.declared.Row.{Row}
 use Rattle.sets.specs.declared.Row.TheVariants.{Of, No}
 use Rattle.sets.specs.declared.Listed.{Listed}
 use Rattle.sets.specs.declared.Reply.TheVariants.{Count}
-use Rattle.sets.specs.Sets.{row_in, Collected, collected_by, collected, next_start, placed as placed_at, after_of, listed_by, listed_of, set_by, set_of, records_of}
+use Rattle.sets.specs.Sets.{row_in, Collected, collected_by, collected, next_start, after_of, listed_by, listed_of, set_by, set_of, records_of}
 use Rattle.demands.specs.Runs.{heard_of, placed, add_to, Bench, fed, finished, asked, Call, Calls, Opened, is_refused, sought}
 use Rattle.demands.specs.Sets.{listed_as, heard_by, listing, Mixed, start, call, list, Wanders, rests, calls, lists, moves, answers}
-use Rattle.demands.proofs.Standing.{Holds, Good, due_by, due, due_zero}
-use Rattle.demands.proofs.Nexts.{Gives, Served, next_served, Hand, next_hand}
+use Rattle.demands.proofs.Standing.{Good, due_by, due, due_zero}
+use Rattle.demands.proofs.Nexts.{Gives, next_served, Hand, next_hand}
 use Rattle.demands.proofs.Fields.{Viewed, next_viewed, next_fill}
 use Rattle.demands.proofs.Chunks.{Step, feeds, finishes, asks, call_step, step_stands, Stands, opened_stands, opened_due}
 use Rattle.demands.proofs.Seeks.{seek_stands, seek_from}

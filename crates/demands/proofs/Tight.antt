@@ -1,31 +1,19 @@
 -- TIGHTNESS: two answers that one promise allows are equal, one statement for each public function of lines, record and reader.
 -- (The writers' are in writer/proofs/Answers, the set calls' in sets/proofs.) Assumes nothing.
-use Prim.Native.Nat.{ℕ, ◌+◌, ◌-◌, min}
-use mathlib.Core.Path.{◌≡◌, refl, sym, ◌∙◌}
-use mathlib.Core.Bool.{Bool}
+use Prim.Native.Nat.{ℕ, ◌-◌, min}
+use mathlib.Core.Path.{◌≡◌, sym, ◌∙◌}
 use mathlib.Core.List.{List}
-use lib.ListN.{length}
 use denote.Ref.{Bor}
 use Rattle.reading.specs.Bytes.{trim_cr, id_length}
-use Rattle.reading.specs.Answer.{Five}
 use Rattle.reading.specs.Reading.{validate, error_id}
-use Rattle.lines.specs.declared.Found.{Found}
 use Rattle.lines.specs.Lines.{line_from, copied, moved_front}
 use Rattle.record.specs.declared.Noted.{Noted}
-use Rattle.record.specs.declared.Sought.{Sought}
-use Rattle.record.specs.declared.Check.{Check}
-use Rattle.record.specs.declared.Range.{Range}
 use Rattle.record.specs.declared.Record.{Record}
 use Rattle.record.specs.Noted.{sought_of}
 use Rattle.record.specs.Check.{five_of, range_of, check_of}
 use Rattle.record.specs.Views.{view_test, View, head_view, seq_view, qual_view, id_view, desc_view, has_desc, Shows}
 use Rattle.reader.specs.declared.Reader.{Reader}
-use Rattle.reader.specs.declared.Opened.{Opened}
 use Rattle.reader.specs.declared.Position.{Position}
-use Rattle.reader.specs.declared.Fed.{Fed}
-use Rattle.reader.specs.declared.Finished.{Finished}
-use Rattle.reader.specs.declared.Next.{Next}
-use Rattle.reader.specs.declared.Moved.{Moved}
 use Rattle.reader.specs.State.{open_of, position_of, own}
 use Rattle.reader.specs.Feed.{feed_of, fed_window, finish_of}
 use Rattle.reader.specs.Next.{next_of}

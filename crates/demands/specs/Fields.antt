@@ -4,7 +4,7 @@ use Rattle.std.specs.Prelude.{ℕ, ◌≡◌, List, []}
 use Rattle.std.proofs.Math.Option.{Option, none, some}
 use Rattle.reading.specs.Answer.{Five}
 use Rattle.reading.specs.Reading.{head_of, seq_of, qual_of, id_in, desc_in}
-use Rattle.record.specs.Views.{View, head_view, seq_view, qual_view, id_view, desc_view, present, has_desc}
+use Rattle.record.specs.Views.{head_view, seq_view, qual_view, id_view, desc_view, present, has_desc}
 
 -- a description's bytes, none if it is absent
 abbrev pub text_of : Option (List ℕ) → List ℕ

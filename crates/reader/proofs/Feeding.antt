@@ -2,21 +2,19 @@
 -- Assumes nothing.
 use mathlib.Core.Path.{◌≡◌, refl, sym, ap, ◌∙◌}
 use mathlib.Core.Bool.{Bool, true, false}
-use mathlib.Core.List.{List, [], ◌∷◌, ◌++◌, append_assoc, append-nil}
+use mathlib.Core.List.{List, [], ◌++◌, append-nil}
 use Prim.Native.Nat.{ℕ, ◌+◌, ◌-◌, ◌<◌, ◌≤◌, min}
 use native.Mathlib.Omega.{arith}
-use lib.Dec.{leb, ltb}
-use lib.ListN.{length, take, drop, length-take, length-drop, length-append, drop_of_length-le}
-use lib.Seq.{slice, take_all, take_at, drop_at, drop-drop, length-slice, length-take-le, take-take}
-use borrow.Author.Tests.{le-leb, lt-leb, lt-ltb, le-ltb, leb-true, ltb-true, ltb-false}
+use lib.Dec.{leb}
+use lib.ListN.{length, take, drop, length-drop, length-append, drop_of_length-le}
+use lib.Seq.{slice, take_all, take_at, drop_at, drop-drop, length-slice, length-take-le}
+use borrow.Author.Tests.{le-leb, lt-leb, lt-ltb, le-ltb, ltb-false}
 use Rattle.lines.specs.Lines.{copied, moved_front}
 use Rattle.lines.proofs.Laws.{take_within, drop_within}
 use Rattle.reader.specs.declared.Reader.{Reader}
-use Rattle.reader.specs.declared.Taken.{Taken}
 use Rattle.reader.specs.declared.Taken.TheVariants.{Took, Refused}
-use Rattle.reader.specs.declared.Fed.{Fed}
 use Rattle.reader.specs.State.{most_bytes, own, Own}
-use Rattle.reader.specs.Feed.{held_of, taken_of, filled, front_of, moves, front_if, refused, taking_by, taking_of, feed_by, feed_of, kept_by, landed_on, landed, fed_by, fed_window, ended_of, finish_of}
+use Rattle.reader.specs.Feed.{held_of, taken_of, filled, front_of, moves, refused, taking_by, taking_of, feed_by, feed_of, kept_by, landed_on, landed, fed_window}
 use Rattle.reader.specs.Inside.{put_of, land_by, land_of}
 use Rattle.reader.proofs.Owning.{own_facts}
 

@@ -1,7 +1,7 @@
 -- Laws of next: the notes after a search fit, and the answer is the reading's step.
 -- Assumes nothing.
-use mathlib.Core.Path.{◌≡◌, refl, sym, ap, ◌∙◌, subst}
-use mathlib.Core.Bool.{Bool, true, false, not, ◌&&◌, ◌||◌, and-true}
+use mathlib.Core.Path.{◌≡◌, refl, sym, ap, ◌∙◌}
+use mathlib.Core.Bool.{Bool, true, false, not, ◌&&◌, and-true}
 use mathlib.Core.List.{List, [], ◌∷◌, ◌++◌}
 use Prim.Native.Nat.{ℕ, suc, ◌+◌, ◌-◌, ◌<◌, ◌≤◌}
 use native.Mathlib.Omega.{arith}
@@ -11,7 +11,6 @@ use lib.ListN.{length, take, drop, length-drop}
 use lib.Seq.{slice, take_all, length-take-le}
 use borrow.Author.Tests.{le-leb, lt-leb, leb-true, leb-false, lt-ltb, ltb-true, ne_eqb, not-true, not-false}
 use Rattle.reading.specs.Bytes.{LF, keep, line_ends, trim_cr, is_empty, pieces, all_blank}
-use Rattle.reading.specs.Answer.{Five, five}
 use Rattle.reading.specs.Reading.{Verdict, good, bad_start, bad_separator, bad_lengths, Step, onward, unended, closing, judged, validate, rest, record_of, complete, tail_rule, end_id}
 use Rattle.reading.specs.Reading as reading
 use Rattle.lines.proofs.Laws.{slice-take}
@@ -20,15 +19,14 @@ use Rattle.record.specs.declared.Noted.TheVariants.{Zero, One, Two, Three, Four}
 use Rattle.record.specs.declared.Record.{Record}
 use Rattle.record.specs.declared.Range.{Range}
 use Rattle.record.specs.Noted.{listed, after, gathered, sought_by, sought_of}
-use Rattle.record.specs.Check.{five_of, record_at, range_of, check_of}
+use Rattle.record.specs.Check.{five_of, range_of, check_of}
 use Rattle.reader.specs.declared.Byte.{Byte}
 use Rattle.reader.specs.declared.Reader.{Reader}
 use Rattle.reader.specs.declared.Answer.TheVariants.{More, WindowLimit, UnexpectedEnd, End, Refused}
-use Rattle.reader.specs.declared.Decided.{Decided}
 use Rattle.reader.specs.State.{line, own, Notes, Own}
-use Rattle.reader.specs.Next.{deciding, settled_by, decided_by, decided_of, onward_by, onward_of, searched_of, seeking_of, closed_of, next_of}
+use Rattle.reader.specs.Next.{deciding, settled_by, decided_of, onward_by, onward_of, searched_of, seeking_of, closed_of, next_of}
 use Rattle.reader.proofs.Owning.{both, fails}
-use Rattle.reader.specs.Inside.{numbers_of, nothing_of, tail_by, tail_of, judged_by, judged_of, Seeks}
+use Rattle.reader.specs.Inside.{numbers_of, tail_by, tail_of, judged_by, judged_of, Seeks}
 
 -- ---- notes that fit
 

@@ -2,10 +2,9 @@
 -- Assumes nothing.
 use mathlib.Core.Path.{◌≡◌, refl, sym, ap, ◌∙◌}
 use mathlib.Core.Bool.{Bool, true, false, ◌&&◌}
-use mathlib.Core.Logic.{◌↔◌}
-use mathlib.Core.List.{List, [], ◌∷◌, ◌++◌}
-use mathlib.Core.Option.{Option, none, some}
-use Prim.Native.Nat.{ℕ, ◌+◌, ◌-◌, ◌<◌, ◌≤◌}
+use mathlib.Core.List.{List, [], ◌++◌}
+use mathlib.Core.Option.{some}
+use Prim.Native.Nat.{ℕ, ◌+◌, ◌-◌}
 use native.Mathlib.Omega.{arith}
 use lib.Dec.{leb}
 use lib.ListN.{length, take, drop, length-take, take-append-drop}
@@ -13,22 +12,18 @@ use borrow.Author.Tests.{le-ltb}
 use native.Mathlib.Nat.{add-zero}
 use Rattle.lines.proofs.Laws.{drop_within}
 use Rattle.reading.specs.Answer as told
-use Rattle.reading.specs.Reading.{Step, onward, unended, closing, step_with, rest}
+use Rattle.reading.specs.Reading.{Step, onward, unended, closing, step_with}
 use Rattle.record.specs.Noted.{listed}
 use Rattle.reader.specs.declared.Byte.{Byte}
 use Rattle.reader.specs.declared.Reader.{Reader}
 use Rattle.reader.specs.declared.Position.{Position}
-use Rattle.reader.specs.declared.Decided.{Decided}
-use Rattle.reader.specs.declared.Answer.{Answer}
 use Rattle.reader.specs.declared.Answer.TheVariants.{Refused}
 use Rattle.reader.specs.declared.Taken.TheVariants as taken
-use Rattle.reader.specs.declared.Ending.TheVariants as ending
-use Rattle.reader.specs.declared.Place.TheVariants as place
 use Rattle.reader.specs.State.{most_bytes, own}
 use Rattle.reader.specs.Feed.{held_of, taken_of, moves, taking_by, taking_of, feed_by, feed_of, landed, fed_by, fed_window, finish_by, finish_of}
-use Rattle.reader.specs.Next.{answer_of, settles, settled_by, decided_by, decided_of, onward_of, searched_of, seeking_of, closed_of, next_by, next_of}
+use Rattle.reader.specs.Next.{answer_of, settles, settled_by, decided_by, decided_of, onward_of, searched_of, seeking_of, next_by, next_of}
 use Rattle.reader.specs.Seek.{is_held, moved_by, seek_by, seek_of}
-use Rattle.reader.specs.Numbers.{open_number, feed_number, finish_number, seek_number, next_number}
+use Rattle.reader.specs.Numbers.{feed_number, finish_number, seek_number, next_number}
 
 -- ---- a refusal changes no state and no window
 

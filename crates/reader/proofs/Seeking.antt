@@ -1,21 +1,18 @@
 -- Laws of open, finish and seek: their answers, by the tests.
 -- Assumes nothing.
-use mathlib.Core.Path.{◌≡◌, refl, sym, ap, ◌∙◌}
-use mathlib.Core.Bool.{Bool, true, false, ◌&&◌}
+use mathlib.Core.Path.{◌≡◌}
+use mathlib.Core.Bool.{true, false}
 use Prim.Native.Nat.{ℕ, ◌+◌, ◌-◌, ◌<◌, ◌≤◌}
 use native.Mathlib.Omega.{arith}
-use lib.Dec.{leb, ltb}
 use borrow.Author.Tests.{le-leb, lt-leb, lt-ltb, le-ltb}
 use Rattle.reader.specs.declared.Reader.{Reader}
 use Rattle.reader.specs.declared.Position.{Position}
 use Rattle.reader.specs.declared.Opened.TheVariants.{Fresh, Refused}
 use Rattle.reader.specs.declared.Ending.TheVariants as endings
 use Rattle.reader.specs.declared.Place.TheVariants as places
-use Rattle.reader.specs.declared.Finished.{Finished}
-use Rattle.reader.specs.declared.Moved.{Moved}
 use Rattle.reader.specs.State.{smallest, largest, most_bytes, fresh_of, open_of, own}
 use Rattle.reader.specs.Feed.{ended_of, finish_of}
-use Rattle.reader.specs.Seek.{base, is_held, moved_by, seek_by, seek_of}
+use Rattle.reader.specs.Seek.{base, is_held, moved_by, seek_of}
 
 pub open_small : (W : ℕ) → W < smallest → Refused 1 ≡ open_of W
 unfolding open_of

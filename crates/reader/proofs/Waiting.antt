@@ -1,8 +1,8 @@
 -- Requests for input: when next asks for more, what the state then is, and when the state waits.
 -- Assumes nothing.
-use Prim.Native.Nat.{ℕ, ◌+◌, ◌-◌, ◌≤◌, ◌<◌, min}
+use Prim.Native.Nat.{ℕ, ◌≤◌, ◌<◌}
 use native.Mathlib.Omega.{arith}
-use mathlib.Core.Path.{◌≡◌, refl, sym, ap, ◌∙◌}
+use mathlib.Core.Path.{◌≡◌, refl, ◌∙◌}
 use mathlib.Core.Bool.{Bool, true, false, ◌||◌}
 use mathlib.Core.Logic.{◌↔◌}
 use mathlib.Core.List.{List, [], ◌∷◌}
@@ -17,10 +17,10 @@ use Rattle.record.specs.declared.Noted.TheVariants.{Zero, One, Two, Three, Four}
 use Rattle.record.specs.Noted.{listed, after, gathered, sought_of}
 use Rattle.reader.specs.declared.Byte.{Byte}
 use Rattle.reader.specs.declared.Reader.{Reader}
-use Rattle.reader.specs.declared.Answer.TheVariants.{More, Refused}
+use Rattle.reader.specs.declared.Answer.TheVariants.{More}
 use Rattle.reader.specs.State.{own, Own}
 use Rattle.reader.specs.Waiting.{settles_now, Wants}
-use Rattle.reader.specs.Next.{answer_of, settles, settled_by, decided_by, decided_of, onward_by, onward_of, searched_of, seeking_of, next_by, next_of}
+use Rattle.reader.specs.Next.{answer_of, settled_by, decided_by, decided_of, onward_by, onward_of, searched_of, seeking_of, next_by, next_of}
 use Rattle.reader.proofs.Owning.{own_true}
 
 -- an answer of a step is no request

@@ -1,6 +1,6 @@
 -- Feed and finish: "Feeding the window" of document 01.
 -- Assumes nothing.
-use Rattle.std.specs.Prelude.{ℕ, ◌+◌, ◌-◌, min, Bool, true, false, List, [], ◌∷◌, ◌++◌, length, take, drop, leb, ltb}
+use Rattle.std.specs.Prelude.{ℕ, ◌+◌, ◌-◌, min, Bool, true, false, List, ◌++◌, length, take, drop, leb, ltb}
 use Rattle.std.proofs.Math.Seq.{slice}
 use Rattle.record.specs.declared.Noted.{Noted}
 use Rattle.record.specs.declared.Noted.TheVariants.{Zero, One, Two, Three, Four}
@@ -8,7 +8,6 @@ use Rattle.reader.specs.declared.Reader.{Reader}
 use Rattle.reader.specs.declared.Taken.{Taken}
 use Rattle.reader.specs.declared.Taken.TheVariants.{Took, Refused}
 use Rattle.reader.specs.declared.Fed.{Fed}
-use Rattle.reader.specs.declared.Ending.{Ending}
 use Rattle.reader.specs.declared.Ending.TheVariants as endings
 use Rattle.reader.specs.declared.Finished.{Finished}
 use Rattle.reader.specs.State.{most_bytes, state_of, own}

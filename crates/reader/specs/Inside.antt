@@ -1,6 +1,6 @@
 -- What the private helpers answer, and the facts that they are handed: steps on the way, which no public promise cites.
 -- Assumes nothing.
-use Rattle.std.specs.Prelude.{ℕ, ◌+◌, ◌-◌, ◌≤◌, Bool, true, false, List, [], ◌∷◌, ◌++◌, length, take, drop, ltb}
+use Rattle.std.specs.Prelude.{ℕ, ◌+◌, ◌-◌, ◌≤◌, Bool, true, false, List, ◌++◌, length, take, drop, ltb}
 use Rattle.reading.specs.Bytes.{pieces, all_blank}
 use Rattle.reading.specs.Reading.{validate, end_id}
 use Rattle.lines.specs.Lines.{moved_front}

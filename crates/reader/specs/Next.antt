@@ -1,6 +1,6 @@
 -- Next: the answer by the reading's own step on the held bytes, and the state after it.
 -- Assumes nothing.
-use Rattle.std.specs.Prelude.{ℕ, ◌+◌, ◌-◌, Bool, true, false, ◌||◌, List, [], ◌∷◌, length, take, leb}
+use Rattle.std.specs.Prelude.{ℕ, ◌+◌, ◌-◌, Bool, true, false, ◌||◌, List, length, take, leb}
 use Rattle.reading.specs.Answer.{Five, found, window_limit, invalid_start, invalid_separator, unequal_lengths, unexpected_end, ended}
 use Rattle.reading.specs.Answer as told
 use Rattle.reading.specs.Reading.{Step, onward, unended, closing, rest, step_with}
@@ -15,7 +15,7 @@ use Rattle.reader.specs.declared.Answer.{Answer}
 use Rattle.reader.specs.declared.Answer.TheVariants.{Record, More, WindowLimit, InvalidStart, InvalidSeparator, UnequalLengths, UnexpectedEnd, End, Refused}
 use Rattle.reader.specs.declared.Next.{Next}
 use Rattle.reader.specs.declared.Decided.{Decided}
-use Rattle.reader.specs.State.{line, byte, state_of, own}
+use Rattle.reader.specs.State.{line, state_of, own}
 
 -- a reading's answer as next gives it: b is the absolute offset of the record
 abbrev pub answer_of : Byte → told.Answer → Answer

@@ -4,7 +4,6 @@ use Rattle.std.specs.Prelude.{ℕ, ◌+◌, ◌-◌, Bool, true, false, ◌&&◌
 use Rattle.record.specs.declared.Noted.TheVariants.{Zero}
 use Rattle.reader.specs.declared.Position.{Position}
 use Rattle.reader.specs.declared.Reader.{Reader}
-use Rattle.reader.specs.declared.Place.{Place}
 use Rattle.reader.specs.declared.Place.TheVariants.{Inside, FeedFrom, Refused}
 use Rattle.reader.specs.declared.Moved.{Moved}
 use Rattle.reader.specs.State.{most_bytes, state_of, own}

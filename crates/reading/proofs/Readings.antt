@@ -4,17 +4,17 @@ use Prim.Native.Nat.{ℕ, zero, suc, ◌+◌, ◌-◌, ◌≤◌, ◌<◌}
 use native.Mathlib.Omega.{arith}
 use native.Mathlib.Numerals.{add-one}
 use native.Mathlib.Nat.{suc-add}
-use mathlib.Core.Path.{◌≡◌, refl, sym, ap, ◌∙◌}
-use mathlib.Core.Bool.{Bool, true, false, ◌&&◌}
-use mathlib.Core.List.{List, [], ◌∷◌, ◌++◌}
+use mathlib.Core.Path.{◌≡◌, refl, sym, ap}
+use mathlib.Core.Bool.{Bool, true, false}
+use mathlib.Core.List.{List, [], ◌∷◌}
 use lib.ListN.{length, take}
-use Rattle.reading.specs.Answer.{Five, Answer, found, window_limit, ended, Told, told}
+use Rattle.reading.specs.Answer.{Five, found, ended, Told, told}
 use Rattle.reading.specs.Reading.{Verdict, good, bad_start, bad_separator, bad_lengths, judged, record_of, validate, complete, tail_by, tail_rule, seen, Step, onward, unended, closing, step_at, follow, read_for, reading, first, padded, ends}
 use Rattle.reading.specs.Lists.{is_found, Closed, last, more}
 use Rattle.reading.specs.Bytes.{pieces, all_blank}
 use lib.Dec.{eqb}
 use lib.ListN.{get_or}
-use Rattle.reading.proofs.Steps.{Rule, four, full, tail, rule_at, step_four, step_full, step_tail, Onward, step_onward, Unended, step_unended}
+use Rattle.reading.proofs.Steps.{Rule, four, full, tail, rule_at, step_four, step_full, step_tail, step_onward, step_unended}
 
 -- two ways to go on that agree at a step's next start give the same answers
 pub follow_agree : (k j : ℕ → ℕ → List Told) (p L : ℕ) (s : Step) → ((r : Five) → s ≡ onward r → k (r.end + 1) (L + 4) ≡ j (r.end + 1) (L + 4)) → follow k p L s ≡ follow j p L s

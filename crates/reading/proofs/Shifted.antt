@@ -1,22 +1,21 @@
 -- A reading that starts k bytes further on is the reading of the bytes from k on, shifted by k.
 -- Assumes nothing.
-use Prim.Native.Nat.{ℕ, zero, suc, ◌+◌, ◌-◌, ◌≤◌, ◌<◌, min}
+use Prim.Native.Nat.{ℕ, zero, suc, ◌+◌, ◌-◌, ◌≤◌, ◌<◌}
 use native.Mathlib.Omega.{arith}
 use native.Mathlib.Nat.{zero-add, suc-add, add_assoc, add-zero}
 use native.Mathlib.Decide.{dec_le}
 use mathlib.Core.Path.{◌≡◌, refl, sym, ap, ◌∙◌}
 use mathlib.Core.Bool.{Bool, true, false, cond}
-use mathlib.Core.List.{List, [], ◌∷◌, ◌++◌, map}
+use mathlib.Core.List.{List, [], ◌∷◌, map}
 use lib.ListN.{length, get_or, take, drop, length-map, length-take, length-drop}
 use lib.Seq.{slice, take-nil, drop-drop, get_or-drop}
 use lib.Dec.{leb, eqb, ltb}
-use borrow.Author.Tests.{leb-true, eqb-true, eqb-false, ltb-true, ltb-false, lt-ltb, le-ltb, eq-eqb, ne_eqb}
-use Rattle.reading.specs.Bytes.{line_ends, byte_at, id_length, pieces, all_blank}
-use Rattle.reading.specs.Answer.{Five, five, Id, absent, range, Answer, found, ended, Told, told}
+use borrow.Author.Tests.{leb-true, eqb-true, ltb-true, ltb-false, lt-ltb, le-ltb}
+use Rattle.reading.specs.Bytes.{byte_at, id_length, pieces, all_blank}
+use Rattle.reading.specs.Answer.{Five, absent, range}
 use Rattle.reading.specs.Reading.{Verdict, good, bad_start, bad_separator, bad_lengths, Step, onward, unended, closing, judged, rest, seen, record_of, validate, verdict, starts_well, has_plus, lengths_agree, complete, tail_rule, tail_by, end_id, step_by, step_at, error_id, head_of, seq_of, qual_of, follow, reading}
 use Rattle.reading.specs.Shift.{shift_five, shift_id, shift, shift_told}
 use Rattle.reading.proofs.Lines.{line_ends-shift, line_ends-length}
-use Rattle.reading.proofs.Steps.{step_onward}
 use Rattle.reading.proofs.Readings.{reading_is, reading_induction}
 
 pub drop-take : (k b : ℕ) (l : List ℕ) → drop k (take (k + b) l) ≡ take b (drop k l)

@@ -1,19 +1,19 @@
 -- What a step has answered stands: whatever bytes follow (`step_prefix`), and in a larger window (`step_wider`).
 -- Assumes nothing.
-use Prim.Native.Nat.{ℕ, zero, suc, ◌+◌, ◌-◌, ◌≤◌, ◌<◌, min}
+use Prim.Native.Nat.{ℕ, ◌+◌, ◌-◌, ◌≤◌, ◌<◌}
 use native.Mathlib.Omega.{arith}
 use native.Mathlib.Decide.{dec_le}
-use borrow.Author.Tests.{leb-true, leb-false, le-leb}
+use borrow.Author.Tests.{leb-true, le-leb}
 use mathlib.Core.Path.{◌≡◌, refl, sym, ap, ◌∙◌}
 use mathlib.Core.Logic.{◌⊎◌, inl, inr}
 use mathlib.Core.Bool.{Bool, true, false, ◌||◌}
-use mathlib.Core.List.{List, [], ◌∷◌, ◌++◌}
-use lib.ListN.{length, get_or, take, drop, length-append, length-take, length-drop, take-append-drop, get_or-append}
-use lib.Seq.{slice, take_all, take-append-le, drop-append-le, length-take-le}
+use mathlib.Core.List.{List, ◌++◌}
+use lib.ListN.{length, get_or, take, drop, length-append, length-drop, take-append-drop, get_or-append}
+use lib.Seq.{take_all, take-append-le, drop-append-le, length-take-le}
 use lib.Dec.{leb}
 use Rattle.reading.specs.Bytes.{line_ends, byte_at}
 use Rattle.reading.specs.Answer.{Five}
-use Rattle.reading.specs.Reading.{Step, judged, rest, seen, record_of, validate, verdict, starts_well, has_plus, lengths_agree, complete, tail_rule, step_with, step_at, settled, error_id, head_of, seq_of, qual_of}
+use Rattle.reading.specs.Reading.{rest, seen, record_of, validate, verdict, starts_well, has_plus, lengths_agree, complete, tail_rule, step_with, step_at, settled, error_id, head_of, seq_of, qual_of}
 use Rattle.reading.proofs.Lines.{line_ends-append, take-append, take_wider}
 use Rattle.reading.proofs.Steps.{Rule, four, full, tail, rule_at, step_four, step_full, step_tail, seen_low, seen_high, seen_rises}
 

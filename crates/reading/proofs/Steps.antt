@@ -1,16 +1,16 @@
 -- Laws of one step: its three rules, and where the next record starts.
 -- Assumes nothing.
-use Prim.Native.Nat.{ℕ, zero, suc, ◌+◌, ◌-◌, ◌≤◌, ◌<◌, min}
+use Prim.Native.Nat.{ℕ, suc, ◌+◌, ◌≤◌, ◌<◌}
 use native.Mathlib.Omega.{arith}
 use mathlib.Core.Path.{◌≡◌, refl, sym, ap, ◌∙◌}
 use mathlib.Core.Bool.{Bool, true, false}
-use mathlib.Core.List.{List, [], ◌∷◌}
+use mathlib.Core.List.{List}
 use lib.ListN.{length, get_or, take, drop, length-take, length-drop}
 use lib.Dec.{leb, eqb}
 use borrow.Author.Tests.{le-leb, lt-leb, leb-true, leb-false, eqb-true}
-use Rattle.reading.specs.Bytes.{line_ends, pieces, all_blank}
-use Rattle.reading.specs.Answer.{Five, Answer, found, window_limit}
-use Rattle.reading.specs.Reading.{Verdict, good, bad_start, bad_separator, bad_lengths, Step, onward, unended, closing, judged, rest, seen, record_of, validate, complete, tail_by, tail_rule, step_at}
+use Rattle.reading.specs.Bytes.{pieces, all_blank}
+use Rattle.reading.specs.Answer.{Five, window_limit}
+use Rattle.reading.specs.Reading.{Verdict, good, bad_start, bad_separator, bad_lengths, onward, unended, closing, judged, rest, seen, record_of, validate, complete, tail_by, tail_rule, step_at}
 use Rattle.reading.proofs.Lines.{line_ends_low, line_ends_high, line_ends_rises, line_ends-length}
 
 -- which of the three rules applies at p

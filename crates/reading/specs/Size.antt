@@ -1,6 +1,6 @@
 -- When a record or a tail is too large for a window, in terms of sizes alone.
 -- Assumes nothing.
-use Rattle.std.specs.Prelude.{ℕ, ◌+◌, ◌-◌, ◌≤◌, ◌<◌, ◌⊎◌, List, [], ◌∷◌, length, get_or}
+use Rattle.std.specs.Prelude.{ℕ, ◌+◌, ◌-◌, ◌≤◌, ◌<◌, ◌⊎◌, List, length, get_or}
 use Rattle.reading.specs.Bytes.{line_ends}
 use Rattle.reading.specs.Reading.{rest}
 

@@ -1,6 +1,5 @@
 -- The reading's five numbers, id ranges and verdicts as this crate's types.
 -- Assumes nothing.
-use Rattle.std.specs.Prelude.{ℕ}
 use Rattle.reading.specs.Answer.{Five, five, Id, absent, range}
 use Rattle.reading.specs.Reading.{Verdict, good, bad_start, bad_separator, bad_lengths}
 use Rattle.record.specs.declared.Record.{Record}

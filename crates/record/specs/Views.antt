@@ -1,6 +1,6 @@
 -- The views of a record, asked with any five numbers and any window: document 01's view test first; where it fails, the empty part at offset 0.
 -- Assumes nothing.
-use Rattle.std.specs.Prelude.{ℕ, ◌+◌, ◌≡◌, Bool, true, false, ◌&&◌, List, [], length, leb, ltb}
+use Rattle.std.specs.Prelude.{ℕ, ◌+◌, ◌≡◌, Bool, true, false, ◌&&◌, List, [], length, leb}
 use Rattle.std.proofs.Math.Option.{Option, none, some}
 use Rattle.std.specs.Borrow.{Bor}
 use Rattle.reading.specs.Bytes.{id_length}

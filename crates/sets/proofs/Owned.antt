@@ -2,16 +2,15 @@
 -- Assumes nothing.
 use mathlib.Core.Path.{◌≡◌, refl, sym, ◌∙◌}
 use mathlib.Core.Bool.{Bool, true, false}
-use mathlib.Core.List.{List, [], ◌∷◌}
-use Prim.Native.Nat.{ℕ, suc, ◌+◌, ◌-◌, ◌≤◌}
+use mathlib.Core.List.{List}
+use Prim.Native.Nat.{ℕ, ◌+◌, ◌≤◌}
 use native.Mathlib.Omega.{arith}
 use native.Mathlib.Nat.{le_refl}
 use lib.ListN.{length}
 use Rattle.record.specs.declared.Noted.{Noted}
 use Rattle.record.specs.declared.Noted.TheVariants.{Zero, One, Two, Three, Four}
-use Rattle.record.specs.Noted.{listed}
 use Rattle.reader.specs.declared.Reader.{Reader}
-use Rattle.reader.specs.State.{most_bytes, most_lines, notes_fit, own, Notes, Own}
+use Rattle.reader.specs.State.{most_lines, own}
 use Rattle.reader.specs.Next.{onward_by, seeking_of, next_by, next_of}
 use Rattle.reader.proofs.Owning.{own_facts, own_true}
 use Rattle.sets.specs.Sets.{next_start, after_of}

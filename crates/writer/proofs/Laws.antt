@@ -10,7 +10,7 @@ use mathlib.Core.Option.{Option, none, some}
 use lib.ListN.{length, take, drop, length-append, length-take, length-drop, take-append-drop, drop_of_length-le}
 use lib.Seq.{take_all, take_at, drop_at, take-take, take-add, drop-drop, take-append_seam, drop-append_seam, slice, length-slice, drop-append-add, length-take-le}
 use lib.Dec.{eqb}
-use borrow.Author.Tests.{lt-leb, le-leb, leb-true, not-true, not-false}
+use borrow.Author.Tests.{lt-leb, le-leb, leb-true}
 use Rattle.reading.specs.Bytes.{LF, CR, AT, PLUS, byte_at, id_length}
 use Rattle.lines.specs.Lines.{line_from, copied}
 use Rattle.lines.proofs.Laws.{line_found, line_none, slice-take}

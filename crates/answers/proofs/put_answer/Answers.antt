@@ -1,6 +1,5 @@
 -- The line is that of the state's record, and the offsets are counted from the window's first byte.
 -- Assumes nothing.
-use Rattle.std.proofs.Common.{rules}
 use Rattle.answers.specs.Told.{answer_line}
 use Rattle.answers.proofs.put_answer.Goals as goal
 

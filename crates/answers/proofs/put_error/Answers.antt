@@ -1,6 +1,6 @@
 -- One case for each kind of range: none, or two places behind the values.
 -- Assumes nothing.
-use Rattle.std.proofs.Common.{◌∙◌, arith, length-set, length-take, rules}
+use Rattle.std.proofs.Common.{◌∙◌, arith, length-set, length-take}
 use Rattle.answers.proofs.Values.{same_line, first_values, error_values}
 use Rattle.answers.proofs.put_error.Goals as goal
 

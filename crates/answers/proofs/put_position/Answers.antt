@@ -1,6 +1,5 @@
 -- It is the line of two values.
 -- Assumes nothing.
-use Rattle.std.proofs.Common.{rules}
 use Rattle.answers.specs.Told.{position_line}
 use Rattle.answers.proofs.put_position.Goals as goal
 

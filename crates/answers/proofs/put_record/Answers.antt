@@ -1,6 +1,5 @@
 -- Each value is the offset of its place.
 -- Assumes nothing.
-use Rattle.std.proofs.Common.{rules}
 use Rattle.answers.proofs.put_record.Goals as goal
 
 pub returns : goal.returns

@@ -1,6 +1,5 @@
 -- One case for each answer: the line that its call puts.
 -- Assumes nothing.
-use Rattle.std.proofs.Common.{rules}
 use Rattle.answers.proofs.put_told.Goals as goal
 
 pub returns-in-Record : goal.returns-in-Record

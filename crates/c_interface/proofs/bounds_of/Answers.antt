@@ -1,6 +1,5 @@
 -- One arm for each case of a range.
 -- Assumes nothing.
-use borrow.Author.Rules.{rules}
 use Rattle.c_interface.proofs.bounds_of.Goals as goal
 
 pub returns-in-Absent : goal.returns-in-Absent

@@ -1,7 +1,6 @@
 -- A state that is lent, or numbers that are none: a law for each (Calling).
 -- Assumes nothing.
 use mathlib.Core.Path.{sym, ap, ◌∙◌}
-use borrow.Author.Rules.{rules}
 use Rattle.c_interface.proofs.Calling.{unpacked_room, called_some, called_none}
 use Rattle.reader.specs.declared.Next.{Next}
 use Rattle.c_interface.specs.Told.{answer_told}

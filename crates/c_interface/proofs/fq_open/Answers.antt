@@ -1,7 +1,6 @@
 -- One law for each answer of open (Calling).
 -- Assumes nothing.
 use mathlib.Core.Path.{sym, ◌∙◌}
-use borrow.Author.Rules.{rules}
 use Rattle.c_interface.proofs.Calling.{open_short, open_fresh, open_refused}
 use Rattle.c_interface.proofs.fq_open.Goals as goal
 

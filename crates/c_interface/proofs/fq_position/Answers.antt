@@ -1,7 +1,6 @@
 -- A state that is lent, or numbers that are none (Calling).
 -- Assumes nothing.
 use mathlib.Core.Path.{sym, ◌∙◌}
-use borrow.Author.Rules.{rules}
 use Rattle.c_interface.proofs.Calling.{unpacked_room, position_some, position_none}
 use Rattle.c_interface.proofs.fq_position.Goals as goal
 

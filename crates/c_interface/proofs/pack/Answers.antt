@@ -2,7 +2,6 @@
 -- Assumes nothing.
 use native.Mathlib.Omega.{arith}
 use lib.ListN.{length-set}
-use borrow.Author.Rules.{rules}
 use Rattle.c_interface.specs.Packed.{numbers_of}
 use Rattle.c_interface.proofs.pack.Goals as goal
 

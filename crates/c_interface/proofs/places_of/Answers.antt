@@ -1,6 +1,5 @@
 -- One arm for each count of notes.
 -- Assumes nothing.
-use borrow.Author.Rules.{rules}
 use Rattle.c_interface.proofs.places_of.Goals as goal
 
 pub returns-in-Zero : goal.returns-in-Zero

@@ -3,7 +3,6 @@
 use mathlib.Core.Path.{refl}
 use native.Mathlib.Omega.{arith}
 use lib.ListN.{length-set}
-use borrow.Author.Rules.{rules}
 use Rattle.c_interface.proofs.put.Goals as goal
 
 pub bounds-values-1 : goal.bounds-values-1

@@ -1,6 +1,5 @@
 -- What is told, by cases of the answer.
 -- Assumes nothing.
-use borrow.Author.Rules.{rules}
 use Rattle.c_interface.proofs.separator_told.Goals as goal
 
 pub returns : goal.returns

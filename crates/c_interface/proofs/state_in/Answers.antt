@@ -1,7 +1,6 @@
 -- The flags' test, and then the notes by cases.
 -- Assumes nothing.
 use mathlib.Core.Path.{sym, ◌∙◌}
-use borrow.Author.Rules.{rules}
 use Rattle.c_interface.specs.Packed.{state_in}
 use Rattle.c_interface.proofs.state_in.Goals as goal
 

@@ -1,7 +1,6 @@
 -- The two tests on lengths, and the state of the numbers that stand there.
 -- Assumes nothing.
 use borrow.Author.Tests.{lt-ltb, le-ltb}
-use borrow.Author.Rules.{rules}
 use Rattle.c_interface.specs.Packed.{unpacked_of}
 use Rattle.c_interface.proofs.unpack.Goals as goal
 

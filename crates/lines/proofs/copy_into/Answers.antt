@@ -1,9 +1,7 @@
-use mathlib.Core.Path.{◌≡◌}
-use Prim.Native.Nat.{◌-◌, ◌≤◌, min}
 use native.Mathlib.Omega.{arith}
-use lib.ListN.{length, length-set}
+use lib.ListN.{length-set}
 use borrow.Author.Rules.{rules}
-use Rattle.lines.proofs.Copies.{over, over_more, over_all}
+use Rattle.lines.proofs.Copies.{over_more, over_all}
 use Rattle.lines.proofs.copy_into.Goals as goal
 
 pub loop-i-preserved : goal.loop-i-preserved

@@ -2,10 +2,8 @@
 -- Assumes nothing.
 use mathlib.Core.Path.{◌≡◌}
 use Prim.Native.Nat.{◌-◌, ◌≤◌, min}
-use native.Mathlib.Omega.{arith}
-use lib.ListN.{length, length-set}
-use borrow.Author.Rules.{rules}
-use Rattle.lines.proofs.Copies.{over, over_more, over_all}
+use lib.ListN.{length}
+use Rattle.lines.proofs.Copies.{over}
 use Rattle.lines.proofs.copy_into.Given as goal
 
 abbrev pub invariant-loop-i : goal.invariant-loop-i

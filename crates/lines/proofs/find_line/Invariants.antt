@@ -1,11 +1,9 @@
 -- The search from `i` always finds what the search from `from` does: a byte that is no LF is passed without a change.
 -- Assumes nothing.
-use mathlib.Core.Path.{◌≡◌, refl, sym, ◌∙◌}
+use mathlib.Core.Path.{◌≡◌}
 use Prim.Native.Nat.{◌-◌}
 use lib.ListN.{length}
-use borrow.Author.Rules.{rules}
 use Rattle.lines.specs.Lines.{line_from}
-use Rattle.lines.proofs.Laws.{line_here, line_on, line_past}
 use Rattle.lines.proofs.find_line.Given as goal
 
 abbrev pub invariant-loop-i : goal.invariant-loop-i

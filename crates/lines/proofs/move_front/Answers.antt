@@ -1,9 +1,7 @@
-use mathlib.Core.Path.{◌≡◌}
-use Prim.Native.Nat.{◌+◌, ◌-◌, ◌≤◌, min}
 use native.Mathlib.Omega.{arith}
-use lib.ListN.{length, drop, length-set}
+use lib.ListN.{length-set}
 use borrow.Author.Rules.{rules}
-use Rattle.lines.proofs.Copies.{over, slide_more, slide_all}
+use Rattle.lines.proofs.Copies.{slide_more, slide_all}
 use Rattle.lines.proofs.move_front.Goals as goal
 
 pub loop-j-preserved : goal.loop-j-preserved

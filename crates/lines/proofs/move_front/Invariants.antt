@@ -2,10 +2,8 @@
 -- Assumes nothing.
 use mathlib.Core.Path.{◌≡◌}
 use Prim.Native.Nat.{◌+◌, ◌-◌, ◌≤◌, min}
-use native.Mathlib.Omega.{arith}
-use lib.ListN.{length, drop, length-set}
-use borrow.Author.Rules.{rules}
-use Rattle.lines.proofs.Copies.{over, slide_more, slide_all}
+use lib.ListN.{length, drop}
+use Rattle.lines.proofs.Copies.{over}
 use Rattle.lines.proofs.move_front.Given as goal
 
 abbrev pub invariant-loop-j : goal.invariant-loop-j

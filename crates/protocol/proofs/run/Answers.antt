@@ -1,7 +1,6 @@
 use native.Mathlib.Omega.{arith}
 use borrow.Author.Rules.{rules}
-use Rattle.protocol.proofs.Turns.{left_of}
-use Rattle.protocol.proofs.Between.{Between, between_first, between_few, record_turn, request_turn, closing_turn}
+use Rattle.protocol.proofs.Between.{between_first, between_few, record_turn, request_turn, closing_turn}
 use Rattle.protocol.proofs.run.Goals as goal
 
 pub loop-state-init : goal.loop-state-init
@@ -28,4 +27,4 @@ loop-state-preserved c = (request_turn _ _ _ _ _ _ _ c.loop-state.invariant _ _ 
 pub returns-in-Closing : goal.returns-in-Closing
 returns-in-Closing c =
     let h = closing_turn _ _ _ _ _ _ _ c.loop-state.invariant _ _ c.next-n.ensures c.kind_of-kind.ensures c.in-Closing.is in
-    record { tally = h.0; bytes = h.1; }
+    record { tally = h.0; bytes = h.1 }

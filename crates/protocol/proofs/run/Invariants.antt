@@ -1,9 +1,7 @@
 -- Between two turns the records counted and those due make up the tally, and the rest of the run leaves the same window; less is left to do with each turn.
 -- Assumes nothing.
-use native.Mathlib.Omega.{arith}
-use borrow.Author.Rules.{rules}
 use Rattle.protocol.proofs.Turns.{left_of}
-use Rattle.protocol.proofs.Between.{Between, between_first, between_few, record_turn, request_turn, closing_turn}
+use Rattle.protocol.proofs.Between.{Between}
 use Rattle.protocol.proofs.run.Given as goal
 
 abbrev pub invariant-loop-state : goal.invariant-loop-state

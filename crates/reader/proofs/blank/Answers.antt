@@ -3,7 +3,6 @@
 use native.Mathlib.Omega.{arith}
 use mathlib.Core.Path.{◌∙◌, ap}
 use lib.ListN.{length}
-use borrow.Author.Rules.{rules}
 use Rattle.record.specs.Noted.{listed}
 use Rattle.reader.proofs.Owning.{notes_at}
 use Rattle.reader.proofs.Nexting.{blank_zero, blank_one, blank_two}

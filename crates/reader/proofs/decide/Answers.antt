@@ -3,7 +3,6 @@
 use lib.ListN.{length}
 use native.Mathlib.Omega.{arith}
 use mathlib.Core.Path.{◌∙◌}
-use borrow.Author.Rules.{rules}
 use Rattle.record.specs.Noted.{listed}
 use Rattle.reader.proofs.Nexting.{notes_start}
 use Rattle.reader.proofs.Nexting.{decided_limit, decided_more, decided_tail, decided_judged}

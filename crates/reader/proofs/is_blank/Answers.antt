@@ -1,6 +1,5 @@
 -- What is left after `trim_cr` has no bytes exactly if it is empty.
 -- Assumes nothing.
-use borrow.Author.Rules.{rules}
 use Rattle.reader.proofs.Nexting.{blank_is}
 use Rattle.reader.proofs.is_blank.Goals as goal
 

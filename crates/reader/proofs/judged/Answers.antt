@@ -1,6 +1,5 @@
 -- The code's check decides as the verdict does, arm by arm.
 -- Assumes nothing.
-use borrow.Author.Rules.{rules}
 use Rattle.reader.specs.Inside.{judged_of}
 use Rattle.reader.proofs.judged.Goals as goal
 

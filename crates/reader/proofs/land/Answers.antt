@@ -1,7 +1,6 @@
 -- The two ways that a chunk lands (Feeding).
 -- Assumes nothing.
 use mathlib.Core.Path.{◌∙◌}
-use borrow.Author.Rules.{rules}
 use Rattle.reader.proofs.Feeding.{land_move, land_stay}
 use Rattle.reader.proofs.land.Goals as goal
 

@@ -1,6 +1,5 @@
 -- Each arm of the match is a clause of the definition.
 -- Assumes nothing.
-use borrow.Author.Rules.{rules}
 use Rattle.reader.specs.State.{notes_fit}
 use Rattle.reader.proofs.notes_fit.Goals as goal
 

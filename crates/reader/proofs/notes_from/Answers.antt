@@ -1,6 +1,5 @@
 -- Each arm of the match is a clause of the definition.
 -- Assumes nothing.
-use borrow.Author.Rules.{rules}
 use Rattle.reader.proofs.notes_from.Goals as goal
 
 pub returns-in-One : goal.returns-in-One

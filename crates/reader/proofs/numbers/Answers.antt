@@ -1,7 +1,6 @@
 -- The places after line ends that lie within the held bytes fit.
 -- Assumes nothing.
 use native.Mathlib.Omega.{arith}
-use borrow.Author.Rules.{rules}
 use Rattle.reader.proofs.Owning.{notes_at}
 use Rattle.reader.proofs.numbers.Goals as goal
 

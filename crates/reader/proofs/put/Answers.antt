@@ -1,6 +1,5 @@
 -- The part that was lent came back with the bytes copied into it (Feeding).
 -- Assumes nothing.
-use borrow.Author.Rules.{rules}
 use Rattle.reader.proofs.Feeding.{put_is}
 use Rattle.reader.proofs.put.Goals as goal
 

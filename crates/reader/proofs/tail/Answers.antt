@@ -2,7 +2,6 @@
 -- Assumes nothing.
 use native.Mathlib.Omega.{arith}
 use mathlib.Core.Path.{sym, ◌∙◌}
-use borrow.Author.Rules.{rules}
 use Rattle.reader.proofs.Nexting.{tail_blank, tail_cut}
 use Rattle.reader.proofs.tail.Goals as goal
 

@@ -1,6 +1,5 @@
 -- Past the end, where the code does not read, the definition says 0 too.
 -- Assumes nothing.
-use borrow.Author.Rules.{rules}
 use Rattle.record.proofs.Laws.{byte_past}
 use Rattle.record.proofs.byte_at.Goals as goal
 

@@ -1,8 +1,5 @@
-use Prim.Native.Nat.{◌-◌}
 use native.Mathlib.Omega.{arith}
-use lib.ListN.{length}
-use borrow.Author.Rules.{rules}
-use Rattle.record.proofs.Laws.{Passed, id_stop, id_on, id_past}
+use Rattle.record.proofs.Laws.{id_stop, id_on, id_past}
 use Rattle.record.proofs.id_length.Goals as goal
 
 pub loop-i-init : goal.loop-i-init

@@ -1,10 +1,8 @@
 -- All bytes that are passed belong to the id; it ends at a space or with the head.
 -- Assumes nothing.
 use Prim.Native.Nat.{◌-◌}
-use native.Mathlib.Omega.{arith}
 use lib.ListN.{length}
-use borrow.Author.Rules.{rules}
-use Rattle.record.proofs.Laws.{Passed, id_stop, id_on, id_past}
+use Rattle.record.proofs.Laws.{Passed}
 use Rattle.record.proofs.id_length.Given as goal
 
 abbrev pub invariant-loop-i : goal.invariant-loop-i

@@ -1,6 +1,5 @@
 -- Each count of notes has the function that goes on from it.
 -- Assumes nothing.
-use borrow.Author.Rules.{rules}
 use Rattle.record.specs.Noted.{sought_of}
 use Rattle.record.proofs.search.Goals as goal
 

@@ -1,7 +1,6 @@
 -- The place behind the record lies between its start and the fill point, so that no sum wraps.
 -- Assumes nothing.
 use native.Mathlib.Omega.{arith}
-use borrow.Author.Rules.{rules}
 use Rattle.sets.proofs.Sounds.{start_within}
 use Rattle.sets.proofs.after.Goals as goal
 

@@ -1,6 +1,5 @@
 -- The answer by cases: a record is given by the one variant that holds one.
 -- Assumes nothing.
-use borrow.Author.Rules.{rules}
 use Rattle.sets.proofs.given.Goals as goal
 
 pub returns-in-Record : goal.returns-in-Record

@@ -1,7 +1,6 @@
 -- By the notes: behind the fourth line end, which lies before the fill point; otherwise the fill point itself.
 -- Assumes nothing.
 use native.Mathlib.Omega.{arith}
-use borrow.Author.Rules.{rules}
 use Rattle.sets.proofs.next_start.Goals as goal
 
 pub overflow_add-result : goal.overflow_add-result

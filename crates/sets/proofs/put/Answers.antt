@@ -2,7 +2,6 @@
 -- Assumes nothing.
 use native.Mathlib.Omega.{arith}
 use lib.ListN.{length-set}
-use borrow.Author.Rules.{rules}
 use Rattle.sets.proofs.Tables.{put_is}
 use Rattle.sets.proofs.put.Goals as goal
 

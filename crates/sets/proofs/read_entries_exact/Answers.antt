@@ -1,5 +1,4 @@
 use mathlib.Core.Path.{refl, ◌∙◌}
-use native.Mathlib.Omega.{arith}
 use lib.ListN.{length-set}
 use Rattle.sets.proofs.Tables.{begin_entries, turn_entries, end_entries}
 use Rattle.sets.proofs.Runs.{step_less, end_out, begin_end, begin_ready, step_ready, step_end}

@@ -3,7 +3,6 @@
 use mathlib.Core.Path.{◌≡◌}
 use lib.ListN.{length}
 use lib.Seq.{sets}
-use Rattle.sets.specs.Sets.{set_of, entries_of}
 use Rattle.sets.specs.Inside.{left_of, end_of, Ready}
 use Rattle.sets.proofs.read_entries_exact.Given as goal
 

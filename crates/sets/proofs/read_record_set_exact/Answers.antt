@@ -1,13 +1,7 @@
-use mathlib.Core.Path.{◌≡◌, refl, ◌∙◌}
-use Prim.Native.Nat.{◌*◌, ◌/◌}
+use mathlib.Core.Path.{refl, ◌∙◌}
 use native.Mathlib.Omega.{arith}
-use lib.ListN.{length}
-use lib.Seq.{sets}
-use borrow.Author.Rules.{rules}
 use Rattle.sets.proofs.Tables.{begin_rows, entry_fits, turn_rows, end_rows}
 use Rattle.sets.proofs.Runs.{step_less, end_out, begin_end, begin_ready, step_ready, step_end}
-use Rattle.sets.specs.Sets.{rows_of}
-use Rattle.sets.specs.Inside.{left_of, end_of, Ready}
 use Rattle.sets.proofs.read_record_set_exact.Goals as goal
 
 pub loop-run-init : goal.loop-run-init
@@ -32,4 +26,4 @@ pub shape_of-table : goal.shape_of-table
 shape_of-table c = c.loop-run.invariant.3
 
 pub returns : goal.returns
-returns c = record { answer = end_out _ _ c.loop-run-test.false ∙ c.loop-run.invariant.1 ∙ rw c.begin-run.ensures (begin_end _ _ _ _); numbers = end_rows _ _ _ _ c.loop-run-test.false ∙ c.loop-run.invariant.2 ∙ begin_rows _ _ _ _ _ c.begin-run.ensures; }
+returns c = record { answer = end_out _ _ c.loop-run-test.false ∙ c.loop-run.invariant.1 ∙ rw c.begin-run.ensures (begin_end _ _ _ _); numbers = end_rows _ _ _ _ c.loop-run-test.false ∙ c.loop-run.invariant.2 ∙ begin_rows _ _ _ _ _ c.begin-run.ensures }

@@ -1,13 +1,9 @@
 -- The invariant: the answer in the end, and the table with what is left to list stored in it, are those of the beginning.
 -- Assumes nothing.
-use mathlib.Core.Path.{◌≡◌, refl, ◌∙◌}
+use mathlib.Core.Path.{◌≡◌}
 use Prim.Native.Nat.{◌*◌, ◌/◌}
-use native.Mathlib.Omega.{arith}
 use lib.ListN.{length}
 use lib.Seq.{sets}
-use borrow.Author.Rules.{rules}
-use Rattle.sets.proofs.Tables.{begin_rows, entry_fits, turn_rows, end_rows}
-use Rattle.sets.proofs.Runs.{step_less, end_out, begin_end, begin_ready, step_ready, step_end}
 use Rattle.sets.specs.Sets.{rows_of}
 use Rattle.sets.specs.Inside.{left_of, end_of, Ready}
 use Rattle.sets.proofs.read_record_set_exact.Given as goal

@@ -1,11 +1,8 @@
-use mathlib.Core.Path.{◌≡◌, refl}
-use mathlib.Core.List.{◌++◌}
-use Prim.Native.Nat.{◌+◌, ◌-◌, ◌^◌, ◌≤◌, ◌<◌}
+use mathlib.Core.Path.{refl}
 use native.Mathlib.Omega.{arith}
-use lib.ListN.{length, drop, length-set}
+use lib.ListN.{length-set}
 use borrow.Author.Rules.{rules}
 use Rattle.text.proofs.Decimals.{digit_more, digit_last, twenty, places_left}
-use Rattle.text.specs.Decimal.{decimal}
 use Rattle.text.proofs.digits_before.Goals as goal
 
 pub loop-rest-init : goal.loop-rest-init

@@ -1,12 +1,9 @@
 -- The digits of what is left of n, and the text from `i` on, are always the digits of n and the text from `end` on; a place is left for each digit.
 -- Assumes nothing.
-use mathlib.Core.Path.{◌≡◌, refl}
+use mathlib.Core.Path.{◌≡◌}
 use mathlib.Core.List.{◌++◌}
 use Prim.Native.Nat.{◌+◌, ◌-◌, ◌^◌, ◌≤◌, ◌<◌}
-use native.Mathlib.Omega.{arith}
-use lib.ListN.{length, drop, length-set}
-use borrow.Author.Rules.{rules}
-use Rattle.text.proofs.Decimals.{digit_more, digit_last, twenty, places_left}
+use lib.ListN.{length, drop}
 use Rattle.text.specs.Decimal.{decimal}
 use Rattle.text.proofs.digits_before.Given as goal
 

@@ -1,10 +1,6 @@
-use mathlib.Core.Path.{◌≡◌}
-use Prim.Native.Nat.{◌-◌, ◌≤◌}
 use native.Mathlib.Omega.{arith}
-use lib.ListN.{length, drop}
 use borrow.Author.Rules.{rules}
 use Rattle.text.proofs.Numbers.{number_none, number_start, below_digits, above_digits, tens_past_high, past_high, digit_read, below_low, within, tens_within}
-use Rattle.text.specs.Parse.{parsed_from, number_within}
 use Rattle.text.proofs.number_within.Goals as goal
 
 pub returns-then-text-eq0 : goal.returns-then-text-eq0

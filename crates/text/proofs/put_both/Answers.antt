@@ -3,7 +3,6 @@
 use mathlib.Core.Path.{refl, ◌∙◌}
 use native.Mathlib.Omega.{arith}
 use lib.ListN.{length-append}
-use borrow.Author.Rules.{rules}
 use Rattle.writer.proofs.Laws.{copied_laid, laid_on, short, wrote}
 use Rattle.text.proofs.put_both.Goals as goal
 

@@ -3,7 +3,6 @@
 use mathlib.Core.Path.{refl}
 use native.Mathlib.Omega.{arith}
 use lib.ListN.{length-take}
-use borrow.Author.Rules.{rules}
 use Rattle.text.proofs.Lines.{line_laid}
 use Rattle.text.proofs.put_line.Goals as goal
 

@@ -2,7 +2,6 @@
 -- Assumes nothing.
 use mathlib.Core.Path.{refl}
 use lib.ListN.{replicate}
-use borrow.Author.Rules.{rules}
 use Rattle.text.proofs.Lines.{number_laid}
 use Rattle.text.proofs.put_number.Goals as goal
 

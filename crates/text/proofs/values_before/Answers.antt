@@ -1,10 +1,7 @@
-use mathlib.Core.Path.{◌≡◌}
-use Prim.Native.Nat.{◌*◌, ◌≤◌}
 use native.Mathlib.Omega.{arith}
-use lib.ListN.{length, drop, length-set}
+use lib.ListN.{length-set}
 use borrow.Author.Rules.{rules}
 use Rattle.text.proofs.Lines.{end_of_line, value_more, values_all}
-use Rattle.text.specs.Line.{value_bytes}
 use Rattle.text.proofs.values_before.Goals as goal
 
 pub loop-j-init : goal.loop-j-init

@@ -2,10 +2,7 @@
 -- Assumes nothing.
 use mathlib.Core.Path.{◌≡◌}
 use Prim.Native.Nat.{◌*◌, ◌≤◌}
-use native.Mathlib.Omega.{arith}
-use lib.ListN.{length, drop, length-set}
-use borrow.Author.Rules.{rules}
-use Rattle.text.proofs.Lines.{end_of_line, value_more, values_all}
+use lib.ListN.{length, drop}
 use Rattle.text.specs.Line.{value_bytes}
 use Rattle.text.proofs.values_before.Given as goal
 

@@ -1,7 +1,6 @@
 -- No bytes have no last byte.
 -- Assumes nothing.
 use native.Mathlib.Omega.{arith}
-use borrow.Author.Rules.{rules}
 use Rattle.writer.proofs.Laws.{ends_empty}
 use Rattle.writer.proofs.ends_in_cr.Goals as goal
 

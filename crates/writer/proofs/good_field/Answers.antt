@@ -1,7 +1,6 @@
 -- A search from the first byte finds an LF if there is one.
 -- Assumes nothing.
 use mathlib.Core.Path.{sym, ◌∙◌}
-use borrow.Author.Rules.{rules}
 use Rattle.writer.proofs.Laws.{field_line, field_whole}
 use Rattle.writer.proofs.good_field.Goals as goal
 

@@ -1,6 +1,5 @@
 -- The definition's tests, each as it was asked.
 -- Assumes nothing.
-use borrow.Author.Rules.{rules}
 use Rattle.writer.specs.Fields.{good_fields}
 use Rattle.writer.proofs.good_fields.Goals as goal
 

@@ -1,6 +1,5 @@
 -- The definition's tests, each as it was asked.
 -- Assumes nothing.
-use borrow.Author.Rules.{rules}
 use Rattle.writer.proofs.Laws.{parts_asked}
 use Rattle.writer.proofs.good_parts.Goals as goal
 

@@ -1,7 +1,6 @@
 -- The lent part comes back with the bytes over its front, which lays them from the place on.
 -- Assumes nothing.
 use mathlib.Core.Path.{refl}
-use borrow.Author.Rules.{rules}
 use Rattle.writer.proofs.Laws.{copied_laid}
 use Rattle.writer.proofs.put.Goals as goal
 

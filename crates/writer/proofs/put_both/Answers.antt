@@ -3,7 +3,6 @@
 use mathlib.Core.Path.{◌∙◌}
 use native.Mathlib.Omega.{arith}
 use lib.ListN.{length-append}
-use borrow.Author.Rules.{rules}
 use Rattle.writer.proofs.Laws.{laid_on}
 use Rattle.writer.proofs.put_both.Goals as goal
 

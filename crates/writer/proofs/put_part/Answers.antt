@@ -1,7 +1,6 @@
 -- Two ways out: too little room, or the part and LF.
 -- Assumes nothing.
 use native.Mathlib.Omega.{arith}
-use borrow.Author.Rules.{rules}
 use Rattle.writer.proofs.Laws.{short_part, wrote_part}
 use Rattle.writer.proofs.put_part.Goals as goal
 

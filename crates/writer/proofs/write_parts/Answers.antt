@@ -3,8 +3,6 @@
 use mathlib.Core.Path.{◌∙◌}
 use native.Mathlib.Omega.{arith}
 use lib.ListN.{length-append}
-use borrow.Author.Tests.{not-true, not-false}
-use borrow.Author.Rules.{rules}
 use Rattle.writer.proofs.Laws.{laid_third, short_record, wrote_record}
 use Rattle.writer.proofs.write_parts.Goals as goal
 

@@ -1,6 +1,5 @@
 -- The parts' test comes first; where it passes the rest is `write_parts`.
 -- Assumes nothing.
-use borrow.Author.Rules.{rules}
 use Rattle.writer.proofs.Laws.{refused, passed}
 use Rattle.writer.proofs.write_parts_checked.Goals as goal
 

@@ -2,7 +2,6 @@
 -- Assumes nothing.
 use mathlib.Core.Path.{◌∙◌}
 use native.Mathlib.Omega.{arith}
-use borrow.Author.Rules.{rules}
 use Rattle.writer.proofs.Laws.{laid_on, short_record, wrote_record}
 use Rattle.writer.proofs.write_to.Goals as goal
 

@@ -1,6 +1,5 @@
 -- The fields' test comes first; where it passes the rest is `write_to`.
 -- Assumes nothing.
-use borrow.Author.Rules.{rules}
 use Rattle.writer.proofs.Laws.{refused, passed}
 use Rattle.writer.proofs.write_to_checked.Goals as goal
 

@@ -1,7 +1,6 @@
 -- The view test comes first; it puts start and end within the window.
 -- Assumes nothing.
 use native.Mathlib.Omega.{arith}
-use borrow.Author.Rules.{rules}
 use Rattle.record.proofs.Views.{fits_asked}
 use Rattle.writer.proofs.Laws.{refused, passed}
 use Rattle.writer.proofs.write_unchanged.Goals as goal

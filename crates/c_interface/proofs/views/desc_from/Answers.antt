@@ -2,7 +2,6 @@
 -- Assumes nothing.
 use mathlib.Core.Path.{ap, ◌∙◌}
 use native.Mathlib.Omega.{arith}
-use borrow.Author.Rules.{rules}
 use Rattle.reading.specs.Bytes.{id_length}
 use Rattle.c_interface.proofs.Showing.{desc_none, desc_some, desc_inside}
 use Rattle.c_interface.proofs.views.desc_from.Goals as goal

@@ -1,6 +1,5 @@
 -- Room for the values or none (Showing).
 -- Assumes nothing.
-use borrow.Author.Rules.{rules}
 use Rattle.c_interface.proofs.Showing.{view_short, view_done}
 use Rattle.c_interface.proofs.views.fq_view.Goals as goal
 

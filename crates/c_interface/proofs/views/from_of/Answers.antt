@@ -1,6 +1,5 @@
 -- By the view test (Showing).
 -- Assumes nothing.
-use borrow.Author.Rules.{rules}
 use Rattle.c_interface.proofs.Showing.{placed_none, placed_some}
 use Rattle.c_interface.proofs.views.from_of.Goals as goal
 

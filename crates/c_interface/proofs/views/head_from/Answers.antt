@@ -1,7 +1,6 @@
 -- By the view test (Showing).
 -- Assumes nothing.
 use native.Mathlib.Omega.{arith}
-use borrow.Author.Rules.{rules}
 use Rattle.record.proofs.Views.{fits_asked}
 use Rattle.c_interface.proofs.Showing.{head_none, head_some}
 use Rattle.c_interface.proofs.views.head_from.Goals as goal

@@ -2,7 +2,6 @@
 -- Assumes nothing.
 use mathlib.Core.Path.{sym, ◌∙◌}
 use borrow.Author.Tests.{eq-eqb, ne_eqb}
-use borrow.Author.Rules.{rules}
 use Rattle.c_interface.specs.Shown.{view_told}
 use Rattle.c_interface.proofs.Showing.{shown_told, seq_from, qual_from, id_from}
 use Rattle.c_interface.proofs.views.view_told.Goals as goal

@@ -1,6 +1,5 @@
 -- Room for the values or none; then the writer's own promise (Writing).
 -- Assumes nothing.
-use borrow.Author.Rules.{rules}
 use Rattle.c_interface.proofs.Writing.{write_short, write_done}
 use Rattle.c_interface.proofs.writes.fq_write_parts.Goals as goal
 

@@ -1,6 +1,5 @@
 -- One arm for each answer of a writer.
 -- Assumes nothing.
-use borrow.Author.Rules.{rules}
 use Rattle.c_interface.proofs.writes.written_told.Goals as goal
 
 -- src/writes.rt:14:1

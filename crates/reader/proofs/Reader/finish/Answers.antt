@@ -2,7 +2,6 @@
 -- Assumes nothing.
 use mathlib.Core.Path.{sym, ◌∙◌}
 use borrow.Author.Tests.{not-true, not-false}
-use borrow.Author.Rules.{rules}
 use Rattle.reader.proofs.Seeking.{finish_foreign, finish_ended, finish_unasked, finish_notes}
 use Rattle.reader.proofs.Reader.finish.Goals as goal
 

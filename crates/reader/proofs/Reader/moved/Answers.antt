@@ -2,7 +2,6 @@
 -- Assumes nothing.
 use native.Mathlib.Omega.{arith}
 use mathlib.Core.Path.{ap, ◌∙◌}
-use borrow.Author.Rules.{rules}
 use Rattle.reader.specs.Seek.{moved_by}
 use Rattle.reader.specs.Inside.{position_at}
 use Rattle.reader.proofs.Seeking.{held_before, held_behind, held_inside}

@@ -1,8 +1,6 @@
 -- Foreign, closed, or on to the record that is sought (Nexting).
 -- Assumes nothing.
 use mathlib.Core.Path.{sym, ◌∙◌}
-use borrow.Author.Tests.{not-true, not-false}
-use borrow.Author.Rules.{rules}
 use Rattle.reader.proofs.Owning.{own_facts, own_self}
 use Rattle.reader.proofs.Nexting.{next_foreign, next_closed, next_open, onward_seeks}
 use Rattle.reader.proofs.Reader.next.Goals as goal

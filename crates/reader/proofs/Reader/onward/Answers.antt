@@ -1,7 +1,6 @@
 -- The sums fit, since the notes of an own state lie within the window.
 -- Assumes nothing.
 use native.Mathlib.Omega.{arith}
-use borrow.Author.Rules.{rules}
 use Rattle.reader.proofs.Owning.{notes_at}
 use Rattle.reader.proofs.Reader.onward.Goals as goal
 

@@ -1,6 +1,5 @@
 -- The early answers and the last test are the definition, case by case (Owning).
 -- Assumes nothing.
-use borrow.Author.Rules.{rules}
 use Rattle.reader.proofs.Owning.{own_back, own_far, own_near}
 use Rattle.reader.proofs.Reader.owns.Goals as goal
 

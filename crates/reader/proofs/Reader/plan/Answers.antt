@@ -2,7 +2,6 @@
 -- Assumes nothing.
 use mathlib.Core.Path.{sym, ◌∙◌}
 use borrow.Author.Tests.{not-true, not-false}
-use borrow.Author.Rules.{rules}
 use Rattle.reader.proofs.Owning.{own_facts, own_self}
 use Rattle.reader.proofs.Feeding.{feed_foreign, feed_ended, feed_unasked, feed_taking}
 use Rattle.reader.proofs.Reader.plan.Goals as goal

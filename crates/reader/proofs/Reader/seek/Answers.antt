@@ -1,8 +1,6 @@
 -- One law for each refusal and for the move (Seeking).
 -- Assumes nothing.
 use mathlib.Core.Path.{sym, ◌∙◌}
-use borrow.Author.Tests.{not-true, not-false}
-use borrow.Author.Rules.{rules}
 use Rattle.reader.proofs.Owning.{own_facts, own_self}
 use Rattle.reader.proofs.Seeking.{seek_foreign, seek_far_line, seek_far_byte, seek_moves}
 use Rattle.reader.proofs.Reader.seek.Goals as goal

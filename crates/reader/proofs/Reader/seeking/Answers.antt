@@ -1,9 +1,7 @@
 -- The notes after the search fit, so that the answer can be decided; the state is built once.
 -- Assumes nothing.
-use lib.ListN.{take, length}
 use native.Mathlib.Omega.{arith}
 use lib.ListN.{length-take}
-use borrow.Author.Rules.{rules}
 use Rattle.reader.specs.Next.{seeking_of}
 use Rattle.reader.proofs.Nexting.{held_notes}
 use Rattle.reader.proofs.Reader.seeking.Goals as goal

@@ -1,7 +1,6 @@
 -- The room is counted by differences, so that no sum wraps; one law for each answer (Feeding).
 -- Assumes nothing.
 use native.Mathlib.Omega.{arith}
-use borrow.Author.Rules.{rules}
 use Rattle.reader.proofs.Feeding.{taking_far, taking_move, taking_stay}
 use Rattle.reader.proofs.Reader.taking.Goals as goal
 

@@ -1,6 +1,5 @@
 -- The numbers that change are differences.
 -- Assumes nothing.
-use borrow.Author.Rules.{rules}
 use Rattle.reader.proofs.Reader.to_front.Goals as goal
 
 pub returns : goal.returns

@@ -1,7 +1,6 @@
 -- The description stands behind the id and a space in the head that is shown; without a space the front is shown.
 -- Assumes nothing.
 use mathlib.Core.Path.{refl}
-use borrow.Author.Rules.{rules}
 use Rattle.record.proofs.Views.{desc_shown, desc_hidden}
 use Rattle.record.specs.Views.{desc_view}
 use Rattle.record.proofs.Record.desc_bytes.Goals as goal

@@ -1,6 +1,5 @@
 -- Gaps are compared as differences, which cannot wrap.
 -- Assumes nothing.
-use borrow.Author.Rules.{rules}
 use Rattle.record.proofs.Views.{test_is}
 use Rattle.record.specs.Views.{view_test}
 use Rattle.record.proofs.Record.fits.Goals as goal

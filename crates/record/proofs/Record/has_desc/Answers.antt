@@ -1,6 +1,5 @@
 -- There is a description where the id is not the whole head.
 -- Assumes nothing.
-use borrow.Author.Rules.{rules}
 use Rattle.record.proofs.Views.{desc_told}
 use Rattle.record.specs.Views.{has_desc}
 use Rattle.record.proofs.Record.has_desc.Goals as goal

@@ -2,7 +2,6 @@
 -- Assumes nothing.
 use mathlib.Core.Path.{refl}
 use native.Mathlib.Omega.{arith}
-use borrow.Author.Rules.{rules}
 use Rattle.reading.specs.Reading.{head_of}
 use Rattle.record.proofs.Views.{fits_asked, shown, hidden}
 use Rattle.record.specs.Views.{head_view}

@@ -1,7 +1,6 @@
 -- The id is a front of the head that is shown, so it starts where the head does.
 -- Assumes nothing.
 use mathlib.Core.Path.{refl}
-use borrow.Author.Rules.{rules}
 use Rattle.record.proofs.Laws.{id_counted}
 use Rattle.record.proofs.Views.{id_shown}
 use Rattle.record.specs.Views.{id_view}

@@ -1,6 +1,5 @@
 -- The LF is taken off the sequence line's count, where it has one, and not added to the other.
 -- Assumes nothing.
-use borrow.Author.Rules.{rules}
 use Rattle.record.proofs.Laws.{agree_none, agree_less}
 use Rattle.record.proofs.Record.lengths_agree.Goals as goal
 

@@ -1,6 +1,5 @@
 -- One law for each of the four ways out, by what the parts answered.
 -- Assumes nothing.
-use borrow.Author.Rules.{rules}
 use Rattle.record.proofs.Laws.{check_start, check_plus, check_good, check_lengths}
 use Rattle.record.proofs.Record.validate.Goals as goal
 

@@ -2,8 +2,6 @@
 -- Assumes nothing.
 use mathlib.Core.Path.{sym, ◌∙◌, refl}
 use native.Mathlib.Omega.{arith}
-use borrow.Author.Tests.{not-true, not-false}
-use borrow.Author.Rules.{rules}
 use Rattle.sets.proofs.Runs.{begin_foreign, begin_none, begin_look}
 use Rattle.sets.proofs.Run.begin.Goals as goal
 

@@ -2,7 +2,6 @@
 -- Assumes nothing.
 use mathlib.Core.Path.{sym, ◌∙◌}
 use native.Mathlib.Omega.{arith}
-use borrow.Author.Rules.{rules}
 use Rattle.sets.proofs.Runs.{look_record, look_other, look_stop}
 use Rattle.sets.proofs.Run.look.Goals as goal
 

@@ -1,7 +1,6 @@
 -- One record more is listed: on to the next, or the wanted count is reached.
 -- Assumes nothing.
 use mathlib.Core.Path.{◌∙◌}
-use borrow.Author.Rules.{rules}
 use Rattle.sets.proofs.Runs.{step_look, step_stop}
 use Rattle.sets.proofs.Run.step.Goals as goal
 

@@ -1,7 +1,6 @@
 -- The state behind the last record, and the count.
 -- Assumes nothing.
 use mathlib.Core.Path.{◌∙◌}
-use borrow.Author.Rules.{rules}
 use Rattle.sets.proofs.Run.stopped.Goals as goal
 
 pub returns : goal.returns
