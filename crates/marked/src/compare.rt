@@ -74,5 +74,5 @@ pub fn unchanged(a: Reader, b: Reader, before: &[u8; 64], window: &[u8]) -> bool
 }
 
 fn same_copies(a: &[u8; 64], b: &[u8; 64]) -> bool {
-    check::same(a, b)
+    a == b
 }

@@ -8,7 +8,7 @@ mod examples;
 mod refusals;
 mod telling;
 
-fn main() {
-    examples::run();
-    refusals::run();
+fn main(rt: HostRuntime) {
+    examples::run(&rt);
+    refusals::run(&rt);
 }
