@@ -10,7 +10,7 @@ if [ $# -gt 0 ] && [ -f "$1" ]; then
 fi
 cd "$(dirname "$0")"
 program=crates/positions/out/positions
-if [ ! -x "$program" ] || [ -n "$(find crates crates.txt -name out -prune -o -newer "$program" -type f -print | head -n 1)" ]; then
+if [ ! -x "$program" ] || [ -n "$(find crates/*/* crates.txt -name out -prune -o -newer "$program" -print | head -n 1)" ]; then
     if ! command -v rt >/dev/null; then
         echo "positions.sh: rt, the command of the Rattle toolchain, is not on the PATH; it is needed to build the program" >&2
         exit 2

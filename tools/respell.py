@@ -15,7 +15,7 @@ import sys
 WORD = re.compile(r"[A-Za-z_][A-Za-z0-9_']*(?:-[A-Za-z0-9_']+)*")
 HEAD = re.compile(r"^(?:(?:pub|abbrev|unfoldable|data|record|ruleset)\s+)*([A-Za-z][A-Za-z0-9_'-]*)(?:\s+[({][^)}]*[)}])*\s*:\s")
 INNER = re.compile(r"^\s+(?:pub\s+)?([A-Za-z][A-Za-z0-9_'-]*)(?:\s+\([^)]*\))*\s*:\s")
-OTHERS = {"getD-later": "get_or_later", "closes_well": "ClosesWell", "closesWell": "ClosesWell", "Space": "SPACE", "Plus": "PLUS", "Tab": "TAB"}
+OTHERS = {"aRecord": "a_record", "firstAnswers": "first_answers", "getD-later": "get_or_later", "closes_well": "ClosesWell", "closesWell": "ClosesWell", "Space": "SPACE", "Plus": "PLUS", "Tab": "TAB"}
 JOINED = {"append", "length", "shift", "take", "drop", "map", "cons", "slice"}
 STD = {"map", "take", "drop", "slice", "length", "append", "set"}
 # What the toolchain's script had respelled already in .rt and .antt files, and in no other: spelled so there too.
@@ -118,7 +118,7 @@ def main():
     outside = {name: renamed(name, definitions) for name in TURNED} | table
 
     def change(text, names=table):
-        return WORD.sub(lambda m: names.get(m[0], m[0]), text)
+        return WORD.sub(lambda m: names.get(m[0], m[0]), text).replace("Told·offset", "told_offset")
 
     count = 0
     for f in files("crates/*/specs/**/*.antt", "crates/*/proofs/**/*.antt", "crates/*/src/**/*.rt", "crates/*/must-fail/*.edit", "README.md", "docs/*.md"):

@@ -8,7 +8,7 @@ ghost use Rattle.reading.specs.Marked.{bytes};
 ghost use Rattle.reader.specs.Seek.{base};
 ghost use Rattle.writer.specs.Answer.{Writes};
 ghost use Rattle.text.specs.Line.{line_bytes};
-ghost use Rattle.answers.specs.Told.{offset as Told·offset, id_values, record_values, line_at, answer_line, position_line};
+ghost use Rattle.answers.specs.Told.{offset as told_offset, id_values, record_values, line_at, answer_line, position_line};
 
 use reader::{Answer, Line, Next, Reader};
 use record::{Range, Record};
@@ -17,7 +17,7 @@ use writer::Written;
 
 // The offset in the input of a place in the window, whose first byte has the offset `front`.
 fn offset(front: u64, place: usize) -> u64
-    ensures { result ≡ Told·offset front place }
+    ensures { result ≡ told_offset front place }
 {
     std::num::wrapping_add_u64(front, place as u64)
 }

@@ -1,5 +1,4 @@
-// The count of a whole input's records, for C and Rust: what the benchmark calls.
-// In C: uint64_t fq_count(const uint8_t *input, size_t input_length, uint8_t *window, size_t window_length, size_t chunk);
+// The count of a whole input's records as one number, in the form that C and Rust are handed: c_count_c exports it.
 #![tactic(auto)]
 
 ghost use Rattle.std.specs.Prelude.{◌≡◌, length};

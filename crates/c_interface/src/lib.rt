@@ -1,4 +1,4 @@
-// The library for C and Rust: its calls on numbers and slices, each under a plain name.
+// The library as C and Rust call it: its calls on numbers and slices, each under a plain name. c_interface_c exports them.
 // A state is lent as 14 numbers, what a call answers as a code and 6 numbers; c_interface.h has their order.
 #![tactic(auto)]
 

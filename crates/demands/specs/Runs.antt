@@ -4,7 +4,7 @@ use Rattle.std.specs.Prelude.{ℕ, suc, ◌+◌, ◌≤◌, ◌<◌, ◌≡◌, 
 use Rattle.std.proofs.Math.Option.{Option, none, some}
 use Rattle.reading.specs.Answer.{Id, absent, range, found, window_limit, invalid_start, invalid_separator, unequal_lengths, unexpected_end, ended, Told, told}
 use Rattle.reading.specs.Answer as read
-use Rattle.reading.specs.Reading.{first as firstAnswers, reading}
+use Rattle.reading.specs.Reading.{first as first_answers, reading}
 use Rattle.reading.specs.Lists.{kept, SameOrOn}
 use Rattle.reading.specs.Shift.{shift_five, shift_id}
 use Rattle.record.specs.declared.Range.{Range}
@@ -119,8 +119,8 @@ pub data Benches (B : List ℕ) (a₀ b₀ : Bench) : Bench → Bench → Type 0
 -- what two benches hear
 pub record Agree (B : List ℕ) (W U : ℕ) (a b : Bench) : Type 0 where
   -- each hears the answers of its own window's reading
-  pub first_reads : a.heard ≡ firstAnswers (length a.heard) B W 0 1
-  pub second_reads : b.heard ≡ firstAnswers (length b.heard) B U 0 1
+  pub first_reads : a.heard ≡ first_answers (length a.heard) B W 0 1
+  pub second_reads : b.heard ≡ first_answers (length b.heard) B U 0 1
   -- and as long as the one with the smaller window has heard no window limit, both have heard the same
   pub agree : (n : ℕ) → n ≤ length a.heard → n ≤ length b.heard → kept (take n a.heard) ≡ take n a.heard → take n a.heard ≡ take n b.heard
   -- their whole readings are equal, or the smaller one's closes with a window limit where the larger one's goes on

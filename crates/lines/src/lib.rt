@@ -29,6 +29,7 @@ pub fn find_line(s: &[u8], from: usize) -> Found
 }
 
 // `s` without one final carriage return, if it has one: the same place.
+#[tactic(auto, using(crate::proofs::Laws::trim_none, crate::proofs::Laws::trim_cr_lem, crate::proofs::Laws::trim_whole))]
 pub fn trim_cr(s: &[u8]) -> &[u8]
     ensures bytes { result.now ≡ trim_cr s.now }
     ensures place { result.ref_ptr ≡ s.entry.ref_ptr }

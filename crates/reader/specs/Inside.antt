@@ -15,7 +15,7 @@ use Rattle.reader.specs.declared.Line.{Line}
 use Rattle.reader.specs.declared.Byte.{Byte}
 use Rattle.reader.specs.declared.Position.{Position}
 use Rattle.reader.specs.declared.Reader.{Reader}
-use Rattle.reader.specs.declared.Answer.TheVariants.{Record as aRecord, InvalidStart, InvalidSeparator, UnequalLengths, UnexpectedEnd, End}
+use Rattle.reader.specs.declared.Answer.TheVariants.{Record as a_record, InvalidStart, InvalidSeparator, UnequalLengths, UnexpectedEnd, End}
 use Rattle.reader.specs.declared.Decided.{Decided}
 use Rattle.reader.specs.declared.Moved.{Moved}
 use Rattle.reader.specs.State.{line, Notes}
@@ -51,7 +51,7 @@ unfoldable pub tail_of : List ℕ → ℕ → ℕ → Noted → Decided
 tail_of H p L e = tail_by H p L e (all_blank (pieces H p (listed e)))
 
 abbrev pub judged_by : Record → ℕ → Byte → Bool → Check → Decided
-judged_by r L b last Good = deciding (aRecord r b) false last
+judged_by r L b last Good = deciding (a_record r b) false last
 judged_by r L b last (Start x) = deciding (InvalidStart x (line L)) false true
 judged_by r L b last (Separator x i) = deciding (InvalidSeparator x (line (L + 2)) i) false true
 judged_by r L b last (Lengths n m i) = deciding (UnequalLengths n m (line L) i) false true

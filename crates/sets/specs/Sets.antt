@@ -7,7 +7,7 @@ use Rattle.record.specs.declared.Noted.{Noted}
 use Rattle.record.specs.declared.Noted.TheVariants.{Zero, One, Two, Three, Four}
 use Rattle.reader.specs.declared.Reader.{Reader}
 use Rattle.reader.specs.declared.Answer.{Answer}
-use Rattle.reader.specs.declared.Answer.TheVariants.{Record as aRecord, More, WindowLimit, InvalidStart, InvalidSeparator, UnequalLengths, UnexpectedEnd, End, Refused}
+use Rattle.reader.specs.declared.Answer.TheVariants.{Record as a_record, More, WindowLimit, InvalidStart, InvalidSeparator, UnequalLengths, UnexpectedEnd, End, Refused}
 use Rattle.reader.specs.declared.Next.{Next}
 use Rattle.reader.specs.State.{state_of, own}
 use Rattle.reader.specs.Next.{next_of}
@@ -20,7 +20,7 @@ use Rattle.sets.specs.declared.Listed.{Listed}
 
 -- the record that an answer gives, if it gives one
 abbrev pub row_in : Answer → Row
-row_in (aRecord r b) = Of r
+row_in (a_record r b) = Of r
 row_in More = No
 row_in (WindowLimit L b) = No
 row_in (InvalidStart x L) = No
