@@ -9,15 +9,15 @@ if [ $# -gt 0 ] && [ -f "$1" ]; then
     shift
 fi
 cd "$(dirname "$0")"
-program=target/bin/positions
-if [ ! -x "$program" ] || [ -n "$(find crates crates.txt -newer "$program" -print | head -n 1)" ]; then
+program=crates/positions/out/positions
+if [ ! -x "$program" ] || [ -n "$(find crates/*/* crates.txt -name out -prune -o -newer "$program" -print | head -n 1)" ]; then
     if ! command -v rt >/dev/null; then
         echo "positions.sh: rt, the command of the Rattle toolchain, is not on the PATH; it is needed to build the program" >&2
         exit 2
     fi
     echo "positions.sh: proving and building the program, which takes a minute or two" >&2
     mkdir -p target
-    rt check positions </dev/null >target/positions.log 2>&1 || {
+    (cd crates/positions && rt run) </dev/null >target/positions.log 2>&1 || {
         cat target/positions.log >&2
         exit 1
     }

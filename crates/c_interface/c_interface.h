@@ -1,4 +1,4 @@
-/* The proved FASTQ reader, for C: the functions of target/staticlib/libc_interface.a, which `rt staticlib c_interface` writes.
+/* The proved FASTQ reader, for C: the functions of target/staticlib/libc_interface.a, which `tools/staticlib.sh c_interface` writes.
  *
  * For x86-64, where size_t has 64 bits. Each slice is lent as a pointer and a length; the pointer is not null and may be read, and
  * where it is not const written, over that length. Slices that one call is lent must not overlap, unless all of them are const.

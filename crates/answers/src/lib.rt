@@ -1,34 +1,30 @@
 // The line of text for each answer of a reader, and for its position. Offsets in a line are absolute.
 // Each function takes any state, answer, output and place; a line that does not fit is refused with 12, and nothing is written.
-use reader::Answer;
-use reader::Line;
-use reader::Next;
-use reader::Reader;
-use record::Range;
-use record::Record;
+#![tactic(auto)]
+
+ghost use Rattle.std.specs.Prelude.{◌≡◌, ◌≤◌, [], ◌∷◌, ◌++◌, take};
+ghost use Rattle.std.proofs.Math.Option.{none};
+ghost use Rattle.reading.specs.Marked.{bytes};
+ghost use Rattle.reader.specs.Seek.{base};
+ghost use Rattle.writer.specs.Answer.{Writes};
+ghost use Rattle.text.specs.Line.{line_bytes};
+ghost use Rattle.answers.specs.Told.{offset as told_offset, id_values, record_values, line_at, answer_line, position_line};
+
+use reader::{Answer, Line, Next, Reader};
+use record::{Range, Record};
 use text::put_line;
 use writer::Written;
-ghost use mathlib.Core.Path.{_≡_};
-ghost use mathlib.Core.Option.{none};
-ghost use mathlib.Core.List.{_++_, _∷_, []};
-ghost use Prim.Native.Nat.{_≤_};
-ghost use lib.ListN.{take};
-ghost use Rattle·reading.specs.Marked.{bytes};
-ghost use Rattle·reader.specs.Seek.{base};
-ghost use Rattle·writer.specs.Answer.{Writes};
-ghost use Rattle·text.specs.Line.{lineBytes};
-ghost use Rattle·answers·specs.specs.Told.{offset as Told·offset, idValues, recordValues, lineAt, answerLine, positionLine};
 
 // The offset in the input of a place in the window, whose first byte has the offset `front`.
 fn offset(front: u64, place: usize) -> u64
-    ensures { λ r. ⌜ r ≡ Told·offset front place ⌝ }
+    ensures { result ≡ told_offset front place }
 {
     std::num::wrapping_add_u64(front, place as u64)
 }
 
 // The offset in the input of the window's first byte.
 fn front_of(state: Reader) -> u64
-    ensures { λ r. ⌜ r ≡ base state ⌝ }
+    ensures { result ≡ base state }
 {
     let byte = state.byte;
     let start = state.start as u64;
@@ -36,13 +32,13 @@ fn front_of(state: Reader) -> u64
 }
 
 fn wide(x: u8) -> u64
-    ensures { λ r. ⌜ r ≡ x ⌝ }
+    ensures { result ≡ x }
 {
     x as u64
 }
 
 fn put_record(out: &mut [u8], at: usize, line: Line, front: u64, r: Record) -> Written
-    ensures { λ w. ⌜ Writes none (now (out .entry)) at (lineBytes (bytes "record") (recordValues (line .0) front r)) w (now (out .exit)) ⌝ }
+    ensures { Writes none out.old at (line_bytes (bytes "record") (record_values line.0 front r)) result out.new }
 {
     let values = [
         line.0,
@@ -67,8 +63,8 @@ fn put_error(
     id: Range,
     front: u64,
 ) -> Written
-    requires { ⌜ count ≤ 4 ⌝ }
-    ensures { λ r. ⌜ Writes none (now (out .entry)) at (lineBytes (bytes "error") (take count (a ∷ b ∷ c ∷ d ∷ []) ++ idValues front id)) r (now (out .exit)) ⌝ }
+    requires { count ≤ 4 }
+    ensures { Writes none out.old at (line_bytes (bytes "error") (take count (a ∷ b ∷ c ∷ d ∷ []) ++ id_values front id)) result out.new }
 {
     let mut values = [a, b, c, d, 0, 0];
     match id {
@@ -84,14 +80,14 @@ fn put_error(
 
 // A line of a word alone.
 fn put_word(out: &mut [u8], at: usize, word: &[u8]) -> Written
-    ensures { λ r. ⌜ Writes none (now (out .entry)) at (lineBytes (now (word .entry)) []) r (now (out .exit)) ⌝ }
+    ensures { Writes none out.old at (line_bytes word.now []) result out.new }
 {
     put_line(out, at, word, &[])
 }
 
 // The line of an answer: `line` is that of the record that was answered, `front` the offset of the window's first byte.
 fn put_told(out: &mut [u8], at: usize, line: Line, front: u64, answer: Answer) -> Written
-    ensures { λ r. ⌜ Writes none (now (out .entry)) at (lineAt (line .0) front answer) r (now (out .exit)) ⌝ }
+    ensures { Writes none out.old at (line_at line.0 front answer) result out.new }
 {
     let none = Range::Absent;
     match answer {
@@ -113,7 +109,7 @@ fn put_told(out: &mut [u8], at: usize, line: Line, front: u64, answer: Answer) -
 
 // The line of what `next` answered, in absolute offsets.
 pub fn put_answer(out: &mut [u8], at: usize, next: Next) -> Written
-    ensures { λ r. ⌜ Writes none (now (out .entry)) at (answerLine next) r (now (out .exit)) ⌝ }
+    ensures { Writes none out.old at (answer_line next) result out.new }
 {
     let state = next.state;
     let answer = next.answer;
@@ -123,7 +119,7 @@ pub fn put_answer(out: &mut [u8], at: usize, next: Next) -> Written
 
 // The line of the state's position.
 pub fn put_position(out: &mut [u8], at: usize, state: Reader) -> Written
-    ensures { λ r. ⌜ Writes none (now (out .entry)) at (positionLine state) r (now (out .exit)) ⌝ }
+    ensures { Writes none out.old at (position_line state) result out.new }
 {
     let line = state.line;
     let byte = state.byte;

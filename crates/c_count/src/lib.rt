@@ -1,16 +1,16 @@
-// The count of a whole input's records, for C and Rust: what the benchmark calls.
-// In C: uint64_t fq_count(const uint8_t *input, size_t input_length, uint8_t *window, size_t window_length, size_t chunk);
+// The count of a whole input's records as one number, in the form that C and Rust are handed: c_count_c exports it.
+#![tactic(auto)]
+
+ghost use Rattle.std.specs.Prelude.{◌≡◌, length};
+ghost use Rattle.protocol.specs.Outcome.{outcome};
+ghost use Rattle.c_count.specs.Numbers.{number_in, WindowIs};
+
 use protocol::Counted;
-ghost use mathlib.Core.Path.{_≡_};
-ghost use lib.ListN.{length};
-ghost use Rattle·protocol.specs.Outcome.{outcome};
-ghost use Rattle·c_count·specs.specs.Numbers.{numberIn, WindowIs};
 
 // How many records the input has; where the count is refused with k, the largest number less k.
-#[no_mangle]
-pub extern "C" fn fq_count(input: &[u8], window: &mut [u8], chunk: usize) -> u64
-    ensures answer { λ r. ⌜ r ≡ numberIn (outcome (now (input .entry)) (length (now (window .entry))) chunk) ⌝ }
-    ensures bytes { λ _. ⌜ WindowIs (now (input .entry)) (now (window .entry)) chunk (now (window .exit)) (outcome (now (input .entry)) (length (now (window .entry))) chunk) ⌝ }
+pub fn fq_count(input: &[u8], window: &mut [u8], chunk: usize) -> u64
+    ensures answer { result ≡ number_in (outcome input.now (length window.old) chunk) }
+    ensures bytes { WindowIs input.now window.old chunk window.new (outcome input.now (length window.old) chunk) }
 {
     let c = protocol::count(input, window, chunk);
     match c {

@@ -1,26 +1,21 @@
 -- What a call through the interface answers, and what it leaves in the lent numbers.
 -- Assumes nothing.
-use Prim.Native.Nat.{ℕ}
-use mathlib.Core.Path.{_≡_}
-use mathlib.Core.Bool.{Bool, true, false}
-use mathlib.Core.List.{List, [], _∷_}
-use lib.ListN.{length}
-use lib.Seq.{sets}
-use lib.Dec.{ltb}
-use Rattle·reader.specs.declared.Reader.{Reader}
-use Rattle·reader.specs.declared.Position.{Position}
-use Rattle·reader.specs.declared.Opened.{Opened}
-use Rattle·reader.specs.declared.Opened.the-variants.{Fresh, Refused}
-use Rattle·reader.specs.State.{line, byte, openOf}
-use Rattle·reader.specs.Feed.{feedOf, fedWindow, finishOf}
-use Rattle·reader.specs.Next.{nextOf}
-use Rattle·reader.specs.Seek.{seekOf}
-use Rattle·sets.specs.Sets.{setOf, tableOf}
-use Rattle·c_interface·specs.specs.declared.Told.{Told}
-use Rattle·c_interface·specs.specs.declared.Unpacked.{Unpacked}
-use Rattle·c_interface·specs.specs.declared.Unpacked.the-variants.{State, Foreign}
-use Rattle·c_interface·specs.specs.Packed.{numbersOf, unpackedOf}
-use Rattle·c_interface·specs.specs.Told.{briefly, valuesOf, answerTold, takenTold, endingTold, placeTold, replyTold}
+use Rattle.std.specs.Prelude.{ℕ, ◌≡◌, Bool, true, false, List, length, ltb}
+use Rattle.std.proofs.lemmas.List.Edits.{sets}
+use Rattle.reader.specs.declared.Reader.{Reader}
+use Rattle.reader.specs.declared.Position.{Position}
+use Rattle.reader.specs.declared.Opened.{Opened}
+use Rattle.reader.specs.declared.Opened.TheVariants.{Fresh, Refused}
+use Rattle.reader.specs.State.{line, byte, open_of}
+use Rattle.reader.specs.Feed.{feed_of, fed_window, finish_of}
+use Rattle.reader.specs.Next.{next_of}
+use Rattle.reader.specs.Seek.{seek_of}
+use Rattle.sets.specs.Sets.{set_of, table_of}
+use Rattle.c_interface.specs.declared.Told.{Told}
+use Rattle.c_interface.specs.declared.Unpacked.{Unpacked}
+use Rattle.c_interface.specs.declared.Unpacked.TheVariants.{State, Foreign}
+use Rattle.c_interface.specs.Packed.{numbers_of, unpacked_of}
+use Rattle.c_interface.specs.Told.{briefly, values_of, answer_told, taken_told, ending_told, place_told, reply_told}
 
 -- a code, and the numbers of the state and of the values afterwards
 pub record Left : Type 0 where
@@ -29,65 +24,65 @@ pub record Left : Type 0 where
   pub values : List ℕ
 
 -- the state s and what is told stand over the front of the lent numbers
-abbrev pub leftOf : List ℕ → List ℕ → Reader → Told → Left
-leftOf st v s t = record { code = t .code; state = sets st 0 (numbersOf s); values = sets v 0 (valuesOf t) }
+abbrev pub left_of : List ℕ → List ℕ → Reader → Told → Left
+left_of st v s t = record { code = t.code; state = sets st 0 (numbers_of s); values = sets v 0 (values_of t) }
 
 -- the code r, with these numbers afterwards, is what is left
 pub record Leaves (r : ℕ) (st v : List ℕ) (x : Left) : Type 0 where
-  pub code : r ≡ x .code
-  pub state : st ≡ x .state
-  pub values : v ≡ x .values
+  pub code : r ≡ x.code
+  pub state : st ≡ x.state
+  pub values : v ≡ x.values
 
 -- numbers that are no state: 2, and nothing changes
-abbrev pub calledBy : List ℕ → List ℕ → (Reader → Reader) → (Reader → Told) → Unpacked → Left
-calledBy st v after tell (State s) = leftOf st v (after s) (tell s)
-calledBy st v after tell Foreign = record { code = 2; state = st; values = v }
+abbrev pub called_by : List ℕ → List ℕ → (Reader → Reader) → (Reader → Told) → Unpacked → Left
+called_by st v after tell (State s) = left_of st v (after s) (tell s)
+called_by st v after tell Foreign = record { code = 2; state = st; values = v }
 
 -- a call on the state that is lent: the state after it, and what it tells
 unfoldable pub called : List ℕ → List ℕ → (Reader → Reader) → (Reader → Told) → Left
-called st v after tell = calledBy st v after tell (unpackedOf st (length v))
+called st v after tell = called_by st v after tell (unpacked_of st (length v))
 
 -- lent memory after a call: as the call leaves it, or untouched
-abbrev pub memoryBy : (Reader → List ℕ) → List ℕ → Unpacked → List ℕ
-memoryBy after m (State s) = after s
-memoryBy after m Foreign = m
+abbrev pub memory_by : (Reader → List ℕ) → List ℕ → Unpacked → List ℕ
+memory_by after m (State s) = after s
+memory_by after m Foreign = m
 
 unfoldable pub memory : List ℕ → List ℕ → (Reader → List ℕ) → List ℕ → List ℕ
-memory st v after m = memoryBy after m (unpackedOf st (length v))
+memory st v after m = memory_by after m (unpacked_of st (length v))
 
-abbrev pub nextCall : List ℕ → List ℕ → List ℕ → Left
-nextCall st v w = called st v (λ s. nextOf s w .state) (λ s. answerTold (nextOf s w .answer))
+abbrev pub next_call : List ℕ → List ℕ → List ℕ → Left
+next_call st v w = called st v (λ s. (next_of s w).state) (λ s. answer_told (next_of s w).answer)
 
 -- n is the window's length, k the chunk's
-abbrev pub feedCall : List ℕ → List ℕ → ℕ → ℕ → Left
-feedCall st v n k = called st v (λ s. feedOf s n k .state) (λ s. takenTold (feedOf s n k .answer))
+abbrev pub feed_call : List ℕ → List ℕ → ℕ → ℕ → Left
+feed_call st v n k = called st v (λ s. (feed_of s n k).state) (λ s. taken_told (feed_of s n k).answer)
 
-abbrev pub feedWindow : List ℕ → List ℕ → List ℕ → List ℕ → List ℕ
-feedWindow st v w chunk = memory st v (λ s. fedWindow s w chunk) w
+abbrev pub feed_window : List ℕ → List ℕ → List ℕ → List ℕ → List ℕ
+feed_window st v w chunk = memory st v (λ s. fed_window s w chunk) w
 
-abbrev pub finishCall : List ℕ → List ℕ → ℕ → Left
-finishCall st v n = called st v (λ s. finishOf s n .state) (λ s. endingTold (finishOf s n .answer))
+abbrev pub finish_call : List ℕ → List ℕ → ℕ → Left
+finish_call st v n = called st v (λ s. (finish_of s n).state) (λ s. ending_told (finish_of s n).answer)
 
 abbrev pub to : ℕ → ℕ → Position
 to L b = record { line = line L; byte = byte b }
 
-abbrev pub seekCall : List ℕ → List ℕ → ℕ → ℕ → ℕ → Left
-seekCall st v n L b = called st v (λ s. seekOf s n (to L b) .state) (λ s. placeTold (seekOf s n (to L b) .answer))
+abbrev pub seek_call : List ℕ → List ℕ → ℕ → ℕ → ℕ → Left
+seek_call st v n L b = called st v (λ s. (seek_of s n (to L b)).state) (λ s. place_told (seek_of s n (to L b)).answer)
 
 -- room is the table's in entries
-abbrev pub setCall : List ℕ → List ℕ → List ℕ → ℕ → ℕ → Left
-setCall st v w room wanted = called st v (λ s. setOf s w room wanted .state) (λ s. replyTold (setOf s w room wanted .answer))
+abbrev pub set_call : List ℕ → List ℕ → List ℕ → ℕ → ℕ → Left
+set_call st v w room wanted = called st v (λ s. (set_of s w room wanted).state) (λ s. reply_told (set_of s w room wanted).answer)
 
-abbrev pub setTable : List ℕ → List ℕ → List ℕ → ℕ → List ℕ → List ℕ
-setTable st v w wanted t = memory st v (λ s. tableOf s w wanted t) t
+abbrev pub set_table : List ℕ → List ℕ → List ℕ → ℕ → List ℕ → List ℕ
+set_table st v w wanted t = memory st v (λ s. table_of s w wanted t) t
 
 -- position changes no state
-abbrev pub positionBy : List ℕ → List ℕ → Unpacked → Left
-positionBy st v (State s) = record { code = 0; state = st; values = sets v 0 (valuesOf (briefly 0 (s .line .0) (s .byte .0))) }
-positionBy st v Foreign = record { code = 2; state = st; values = v }
+abbrev pub position_by : List ℕ → List ℕ → Unpacked → Left
+position_by st v (State s) = record { code = 0; state = st; values = sets v 0 (values_of (briefly 0 s.line.0 s.byte.0)) }
+position_by st v Foreign = record { code = 2; state = st; values = v }
 
-unfoldable pub positionCall : List ℕ → List ℕ → Left
-positionCall st v = positionBy st v (unpackedOf st (length v))
+unfoldable pub position_call : List ℕ → List ℕ → Left
+position_call st v = position_by st v (unpacked_of st (length v))
 
 -- a code, and the numbers of the state afterwards
 pub record Begun : Type 0 where
@@ -95,15 +90,15 @@ pub record Begun : Type 0 where
   pub state : List ℕ
 
 -- by the test: there are fewer than 14 numbers
-abbrev pub openBy : List ℕ → Bool → Opened → Begun
-openBy st true o = record { code = 2; state = st }
-openBy st false (Fresh s) = record { code = 0; state = sets st 0 (numbersOf s) }
-openBy st false (Refused k) = record { code = k; state = st }
+abbrev pub open_by : List ℕ → Bool → Opened → Begun
+open_by st true o = record { code = 2; state = st }
+open_by st false (Fresh s) = record { code = 0; state = sets st 0 (numbers_of s) }
+open_by st false (Refused k) = record { code = k; state = st }
 
-unfoldable pub openCall : List ℕ → ℕ → Begun
-openCall st W = openBy st (ltb (length st) 14) (openOf W)
+unfoldable pub open_call : List ℕ → ℕ → Begun
+open_call st W = open_by st (ltb (length st) 14) (open_of W)
 
 -- the code r, with these numbers afterwards
 pub record Begins (r : ℕ) (st : List ℕ) (x : Begun) : Type 0 where
-  pub code : r ≡ x .code
-  pub state : st ≡ x .state
+  pub code : r ≡ x.code
+  pub state : st ≡ x.state

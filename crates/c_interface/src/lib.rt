@@ -1,28 +1,19 @@
-// The library for C and Rust: its calls on numbers and slices, each under a plain name.
+// The library as C and Rust call it: its calls on numbers and slices, each under a plain name. c_interface_c exports them.
 // A state is lent as 14 numbers, what a call answers as a code and 6 numbers; c_interface.h has their order.
-mod views;
-mod writes;
+#![tactic(auto)]
 
-use reader::Answer;
-use reader::Byte;
-use reader::Ending;
-use reader::Line;
-use reader::Opened;
-use reader::Place;
-use reader::Position;
-use reader::Reader;
-use reader::Taken;
-use record::Noted;
-use record::Range;
-use record::Record;
+pub mod views;
+pub mod writes;
+
+ghost use Rattle.std.specs.Prelude.{◌≡◌, ◌≤◌, ◌/◌, length};
+ghost use Rattle.std.proofs.lemmas.List.Edits.{sets};
+ghost use Rattle.c_interface.specs.Packed.{places_of, flag_of, numbers_of, notes_in, state_in, unpacked_of};
+ghost use Rattle.c_interface.specs.Told.{telling, briefly, bounds_of, answer_told, taken_told, ending_told, place_told, reply_told, values_of};
+ghost use Rattle.c_interface.specs.Calls.{left_of, Leaves, Begins, open_call, next_call, feed_call, feed_window, finish_call, seek_call, set_call, set_table, position_call};
+
+use reader::{Answer, Byte, Ending, Line, Opened, Place, Position, Reader, Taken};
+use record::{Noted, Range, Record};
 use sets::Reply;
-ghost use mathlib.Core.Path.{_≡_};
-ghost use Prim.Native.Nat.{_≤_, _/_};
-ghost use lib.ListN.{length};
-ghost use lib.Seq.{sets};
-ghost use Rattle·c_interface·specs.specs.Packed.{placesOf, flagOf, numbersOf, notesIn, stateIn, unpackedOf};
-ghost use Rattle·c_interface·specs.specs.Told.{telling, briefly, boundsOf, answerTold, takenTold, endingTold, placeTold, replyTold, valuesOf};
-ghost use Rattle·c_interface·specs.specs.Calls.{leftOf, Leaves, Begins, openCall, nextCall, feedCall, feedWindow, finishCall, seekCall, setCall, setTable, positionCall};
 
 // How many numbers are a state.
 pub const STATE: usize = 14;
@@ -42,18 +33,21 @@ pub const FEED_FROM: usize = 17;
 pub const ABSENT: usize = 18;
 
 // What numbers say of notes, or that they are no notes.
+#[derive(Clone, Copy)]
 pub enum Notes {
     Of(Noted),
     No,
 }
 
 // The state that numbers are, or that they are none.
+#[derive(Clone, Copy)]
 pub enum Unpacked {
     State(Reader),
     Foreign,
 }
 
 // A code, and the values beside it in document 01's order; those that it does not have are 0.
+#[derive(Clone, Copy)]
 pub struct Told {
     pub code: usize,
     pub a: usize,
@@ -65,6 +59,7 @@ pub struct Told {
 }
 
 // A range's values: whether there is one, and where it starts and ends.
+#[derive(Clone, Copy)]
 pub struct Bounds {
     pub given: usize,
     pub from: usize,
@@ -73,7 +68,7 @@ pub struct Bounds {
 
 // The notes by their count; the places that are not noted must be 0.
 fn notes_in(count: usize, a: usize, b: usize, c: usize, d: usize) -> Notes
-    ensures { λ r. ⌜ r ≡ notesIn count a b c d ⌝ }
+    ensures { result ≡ notes_in count a b c d }
 {
     if (count == 0) & (a == 0) & (b == 0) & (c == 0) & (d == 0) {
         return Notes::Of(Noted::Zero);
@@ -94,19 +89,19 @@ fn notes_in(count: usize, a: usize, b: usize, c: usize, d: usize) -> Notes
 }
 
 fn wide(x: usize) -> u64
-    ensures { λ r. ⌜ r ≡ x ⌝ }
+    ensures { result ≡ x }
 {
     x as u64
 }
 
 fn number(x: u64) -> usize
-    ensures { λ r. ⌜ r ≡ x ⌝ }
+    ensures { result ≡ x }
 {
     x as usize
 }
 
 fn flag(b: bool) -> usize
-    ensures { λ r. ⌜ r ≡ flagOf b ⌝ }
+    ensures { result ≡ flag_of b }
 {
     if b { 1 } else { 0 }
 }
@@ -128,7 +123,7 @@ fn state_in(
     waiting: usize,
     closed: usize,
 ) -> Unpacked
-    ensures { λ r. ⌜ r ≡ stateIn window start fill count a b c d mark line byte ended waiting closed ⌝ }
+    ensures { result ≡ state_in window start fill count a b c d mark line byte ended waiting closed }
 {
     if (1 < ended) | (1 < waiting) | (1 < closed) {
         return Unpacked::Foreign;
@@ -153,7 +148,7 @@ fn state_in(
 
 // The state that is lent, if there is room for an answer's values too.
 fn unpack(state: &[usize], values: usize) -> Unpacked
-    ensures { λ r. ⌜ r ≡ unpackedOf (now (state .entry)) values ⌝ }
+    ensures { result ≡ unpacked_of state.now values }
 {
     if values < VALUES {
         return Unpacked::Foreign;
@@ -162,24 +157,13 @@ fn unpack(state: &[usize], values: usize) -> Unpacked
         return Unpacked::Foreign;
     }
     state_in(
-        state[0],
-        state[1],
-        state[2],
-        state[3],
-        state[4],
-        state[5],
-        state[6],
-        state[7],
-        state[8],
-        state[9],
-        state[10],
-        state[11],
-        state[12],
-        state[13],
+        state[0], state[1], state[2], state[3], state[4], state[5], state[6], state[7], state[8],
+        state[9], state[10], state[11], state[12], state[13],
     )
 }
 
 // The places of notes, as many as there are.
+#[derive(Clone, Copy)]
 pub struct Places {
     pub count: usize,
     pub a: usize,
@@ -189,7 +173,7 @@ pub struct Places {
 }
 
 fn places_of(noted: Noted) -> Places
-    ensures { λ r. ⌜ r ≡ placesOf noted ⌝ }
+    ensures { result ≡ places_of noted }
 {
     match noted {
         Noted::Zero => Places {
@@ -232,8 +216,8 @@ fn places_of(noted: Noted) -> Places
 
 // The numbers of a state.
 fn pack(state: &mut [usize], s: Reader)
-    requires { ⌜ 14 ≤ length (now state) ⌝ }
-    ensures { λ _. ⌜ now (state .exit) ≡ sets (now (state .entry)) 0 (numbersOf s) ⌝ }
+    requires { 14 ≤ length state.old }
+    ensures { state.new ≡ sets state.old 0 (numbers_of s) }
 {
     let noted = s.noted;
     let line = s.line;
@@ -257,8 +241,8 @@ fn pack(state: &mut [usize], s: Reader)
 
 // The values of an answer.
 fn put(values: &mut [usize], t: Told)
-    requires { ⌜ 6 ≤ length (now values) ⌝ }
-    ensures { λ _. ⌜ now (values .exit) ≡ sets (now (values .entry)) 0 (valuesOf t) ⌝ }
+    requires { 6 ≤ length values.old }
+    ensures { values.new ≡ sets values.old 0 (values_of t) }
 {
     values[0] = t.a;
     values[1] = t.b;
@@ -269,7 +253,7 @@ fn put(values: &mut [usize], t: Told)
 }
 
 fn brief(code: usize, a: usize, b: usize) -> Told
-    ensures { λ r. ⌜ r ≡ briefly code a b ⌝ }
+    ensures { result ≡ briefly code a b }
 {
     Told {
         code,
@@ -283,7 +267,7 @@ fn brief(code: usize, a: usize, b: usize) -> Told
 }
 
 fn bounds_of(id: Range) -> Bounds
-    ensures { λ r. ⌜ r ≡ boundsOf id ⌝ }
+    ensures { result ≡ bounds_of id }
 {
     match id {
         Range::Absent => Bounds {
@@ -296,7 +280,7 @@ fn bounds_of(id: Range) -> Bounds
 }
 
 fn record_told(r: Record, byte: Byte) -> Told
-    ensures { λ t. ⌜ t ≡ telling 0 (r .start) (r .seq) (r .sep) (r .qual) (r .end) (byte .0) ⌝ }
+    ensures { result ≡ telling 0 r.start r.seq r.sep r.qual r.end byte.0 }
 {
     Told {
         code: DONE,
@@ -310,7 +294,7 @@ fn record_told(r: Record, byte: Byte) -> Told
 }
 
 fn separator_told(found: u8, line: Line, id: Range) -> Told
-    ensures { λ r. ⌜ r ≡ telling 9 found (line .0) (boundsOf id .given) (boundsOf id .from) (boundsOf id .to) 0 ⌝ }
+    ensures { result ≡ telling 9 found line.0 (bounds_of id).given (bounds_of id).from (bounds_of id).to 0 }
 {
     let i = bounds_of(id);
     Told {
@@ -325,7 +309,7 @@ fn separator_told(found: u8, line: Line, id: Range) -> Told
 }
 
 fn lengths_told(seq: usize, qual: usize, line: Line, id: Range) -> Told
-    ensures { λ r. ⌜ r ≡ telling 10 seq qual (line .0) (boundsOf id .given) (boundsOf id .from) (boundsOf id .to) ⌝ }
+    ensures { result ≡ telling 10 seq qual line.0 (bounds_of id).given (bounds_of id).from (bounds_of id).to }
 {
     let i = bounds_of(id);
     Told {
@@ -340,7 +324,7 @@ fn lengths_told(seq: usize, qual: usize, line: Line, id: Range) -> Told
 }
 
 fn end_told(line: Line, id: Range) -> Told
-    ensures { λ r. ⌜ r ≡ telling 11 (line .0) (boundsOf id .given) (boundsOf id .from) (boundsOf id .to) 0 0 ⌝ }
+    ensures { result ≡ telling 11 line.0 (bounds_of id).given (bounds_of id).from (bounds_of id).to 0 0 }
 {
     let i = bounds_of(id);
     Told {
@@ -356,7 +340,7 @@ fn end_told(line: Line, id: Range) -> Told
 
 // What next answers, as a code and values.
 fn answer_told(answer: Answer) -> Told
-    ensures { λ r. ⌜ r ≡ answerTold answer ⌝ }
+    ensures { result ≡ answer_told answer }
 {
     match answer {
         Answer::Record(r, byte) => record_told(r, byte),
@@ -372,7 +356,7 @@ fn answer_told(answer: Answer) -> Told
 }
 
 fn taken_told(answer: Taken) -> Told
-    ensures { λ r. ⌜ r ≡ takenTold answer ⌝ }
+    ensures { result ≡ taken_told answer }
 {
     match answer {
         Taken::Took(n) => brief(DONE, n, 0),
@@ -381,7 +365,7 @@ fn taken_told(answer: Taken) -> Told
 }
 
 fn ending_told(answer: Ending) -> Told
-    ensures { λ r. ⌜ r ≡ endingTold answer ⌝ }
+    ensures { result ≡ ending_told answer }
 {
     match answer {
         Ending::Noted => brief(DONE, 0, 0),
@@ -390,7 +374,7 @@ fn ending_told(answer: Ending) -> Told
 }
 
 fn place_told(answer: Place) -> Told
-    ensures { λ r. ⌜ r ≡ placeTold answer ⌝ }
+    ensures { result ≡ place_told answer }
 {
     match answer {
         Place::Inside => brief(DONE, 0, 0),
@@ -400,7 +384,7 @@ fn place_told(answer: Place) -> Told
 }
 
 fn reply_told(answer: Reply) -> Told
-    ensures { λ r. ⌜ r ≡ replyTold answer ⌝ }
+    ensures { result ≡ reply_told answer }
 {
     match answer {
         Reply::Count(n) => brief(DONE, n, 0),
@@ -411,8 +395,8 @@ fn reply_told(answer: Reply) -> Told
 
 // The state and the values after a call; its code.
 fn leave(state: &mut [usize], values: &mut [usize], s: Reader, t: Told) -> usize
-    requires { ⌜ (14 ≤ length (now state)) × (6 ≤ length (now values)) ⌝ }
-    ensures { λ r. ⌜ Leaves r (now (state .exit)) (now (values .exit)) (leftOf (now (state .entry)) (now (values .entry)) s t) ⌝ }
+    requires { (14 ≤ length state.old) × (6 ≤ length values.old) }
+    ensures { Leaves result state.new values.new (left_of state.old values.old s t) }
 {
     pack(state, s);
     put(values, t);
@@ -420,9 +404,8 @@ fn leave(state: &mut [usize], values: &mut [usize], s: Reader, t: Told) -> usize
 }
 
 // A fresh state for windows of this length.
-#[no_mangle]
-pub extern "C" fn fq_open(state: &mut [usize], window: usize) -> usize
-    ensures { λ r. ⌜ Begins r (now (state .exit)) (openCall (now (state .entry)) window) ⌝ }
+pub fn fq_open(state: &mut [usize], window: usize) -> usize
+    ensures { Begins result state.new (open_call state.old window) }
 {
     if state.len() < STATE {
         return 2;
@@ -438,15 +421,9 @@ pub extern "C" fn fq_open(state: &mut [usize], window: usize) -> usize
 }
 
 // Takes from the chunk; the value is how many bytes.
-#[no_mangle]
-pub extern "C" fn fq_feed(
-    state: &mut [usize],
-    values: &mut [usize],
-    window: &mut [u8],
-    chunk: &[u8],
-) -> usize
-    ensures answer { λ r. ⌜ Leaves r (now (state .exit)) (now (values .exit)) (feedCall (now (state .entry)) (now (values .entry)) (length (now (window .entry))) (length (now (chunk .entry)))) ⌝ }
-    ensures bytes { λ _. ⌜ now (window .exit) ≡ feedWindow (now (state .entry)) (now (values .entry)) (now (window .entry)) (now (chunk .entry)) ⌝ }
+pub fn fq_feed(state: &mut [usize], values: &mut [usize], window: &mut [u8], chunk: &[u8]) -> usize
+    ensures answer { Leaves result state.new values.new (feed_call state.old values.old (length window.old) (length chunk.now)) }
+    ensures bytes { window.new ≡ feed_window state.old values.old window.old chunk.now }
 {
     let u = unpack(state, values.len());
     match u {
@@ -462,9 +439,8 @@ pub extern "C" fn fq_feed(
 }
 
 // Notes the end of the input.
-#[no_mangle]
-pub extern "C" fn fq_finish(state: &mut [usize], values: &mut [usize], window: &[u8]) -> usize
-    ensures { λ r. ⌜ Leaves r (now (state .exit)) (now (values .exit)) (finishCall (now (state .entry)) (now (values .entry)) (length (now (window .entry)))) ⌝ }
+pub fn fq_finish(state: &mut [usize], values: &mut [usize], window: &[u8]) -> usize
+    ensures { Leaves result state.new values.new (finish_call state.old values.old (length window.now)) }
 {
     let u = unpack(state, values.len());
     match u {
@@ -480,9 +456,8 @@ pub extern "C" fn fq_finish(state: &mut [usize], values: &mut [usize], window: &
 }
 
 // The next answer.
-#[no_mangle]
-pub extern "C" fn fq_next(state: &mut [usize], values: &mut [usize], window: &[u8]) -> usize
-    ensures { λ r. ⌜ Leaves r (now (state .exit)) (now (values .exit)) (nextCall (now (state .entry)) (now (values .entry)) (now (window .entry))) ⌝ }
+pub fn fq_next(state: &mut [usize], values: &mut [usize], window: &[u8]) -> usize
+    ensures { Leaves result state.new values.new (next_call state.old values.old window.now) }
 {
     let u = unpack(state, values.len());
     match u {
@@ -498,15 +473,14 @@ pub extern "C" fn fq_next(state: &mut [usize], values: &mut [usize], window: &[u
 }
 
 // To another line and byte; with FEED_FROM the value is the byte to feed from.
-#[no_mangle]
-pub extern "C" fn fq_seek(
+pub fn fq_seek(
     state: &mut [usize],
     values: &mut [usize],
     window: &[u8],
     line: u64,
     byte: u64,
 ) -> usize
-    ensures { λ r. ⌜ Leaves r (now (state .exit)) (now (values .exit)) (seekCall (now (state .entry)) (now (values .entry)) (length (now (window .entry))) line byte) ⌝ }
+    ensures { Leaves result state.new values.new (seek_call state.old values.old (length window.now) line byte) }
 {
     let u = unpack(state, values.len());
     match u {
@@ -528,9 +502,8 @@ pub extern "C" fn fq_seek(
 }
 
 // The position: its line and its byte.
-#[no_mangle]
-pub extern "C" fn fq_position(state: &[usize], values: &mut [usize]) -> usize
-    ensures { λ r. ⌜ Leaves r (now (state .entry)) (now (values .exit)) (positionCall (now (state .entry)) (now (values .entry))) ⌝ }
+pub fn fq_position(state: &[usize], values: &mut [usize]) -> usize
+    ensures { Leaves result state.now values.new (position_call state.now values.old) }
 {
     let u = unpack(state, values.len());
     match u {
@@ -547,15 +520,14 @@ pub extern "C" fn fq_position(state: &[usize], values: &mut [usize]) -> usize
 }
 
 // Lists as many records as there are and the table has whole entries for; the value is how many.
-#[no_mangle]
-pub extern "C" fn fq_read_record_set(
+pub fn fq_read_record_set(
     state: &mut [usize],
     values: &mut [usize],
     window: &[u8],
     table: &mut [usize],
 ) -> usize
-    ensures answer { λ r. ⌜ Leaves r (now (state .exit)) (now (values .exit)) (setCall (now (state .entry)) (now (values .entry)) (now (window .entry)) (length (now (table .entry)) / 5) (length (now (table .entry)) / 5)) ⌝ }
-    ensures numbers { λ _. ⌜ now (table .exit) ≡ setTable (now (state .entry)) (now (values .entry)) (now (window .entry)) (length (now (table .entry)) / 5) (now (table .entry)) ⌝ }
+    ensures answer { Leaves result state.new values.new (set_call state.old values.old window.now (length table.old / 5) (length table.old / 5)) }
+    ensures numbers { table.new ≡ set_table state.old values.old window.now (length table.old / 5) table.old }
 {
     let u = unpack(state, values.len());
     match u {
@@ -571,16 +543,15 @@ pub extern "C" fn fq_read_record_set(
 }
 
 // Lists at most so many records.
-#[no_mangle]
-pub extern "C" fn fq_read_record_set_exact(
+pub fn fq_read_record_set_exact(
     state: &mut [usize],
     values: &mut [usize],
     window: &[u8],
     table: &mut [usize],
     wanted: usize,
 ) -> usize
-    ensures answer { λ r. ⌜ Leaves r (now (state .exit)) (now (values .exit)) (setCall (now (state .entry)) (now (values .entry)) (now (window .entry)) (length (now (table .entry)) / 5) wanted) ⌝ }
-    ensures numbers { λ _. ⌜ now (table .exit) ≡ setTable (now (state .entry)) (now (values .entry)) (now (window .entry)) wanted (now (table .entry)) ⌝ }
+    ensures answer { Leaves result state.new values.new (set_call state.old values.old window.now (length table.old / 5) wanted) }
+    ensures numbers { table.new ≡ set_table state.old values.old window.now wanted table.old }
 {
     let u = unpack(state, values.len());
     match u {

@@ -1,18 +1,16 @@
 // The views of a record: where a part of it stands in the window, and how long it is.
-use crate::Told;
-use crate::VALUES;
-use crate::brief;
-use crate::put;
+ghost use Rattle.std.specs.Prelude.{◌≡◌};
+ghost use Rattle.reading.specs.Answer.{five};
+ghost use Rattle.record.specs.Check.{five_of};
+ghost use Rattle.record.specs.Views.{head_view, seq_view, qual_view, id_view, desc_view};
+ghost use Rattle.c_interface.specs.Shown.{Shown, view_told, view_call, placed};
+
+use crate::{Told, VALUES, brief, put};
 use record::Record;
-ghost use mathlib.Core.Path.{_≡_};
-ghost use Rattle·reading.specs.Answer.{five};
-ghost use Rattle·record.specs.Check.{fiveOf};
-ghost use Rattle·record.specs.Views.{headView, seqView, qualView, idView, descView};
-ghost use Rattle·c_interface·specs.specs.Shown.{Shown, viewTold, viewCall, placed};
 
 // A number, or 0 where the five numbers are no record's.
 fn from_of(window: &[u8], r: Record, from: usize) -> usize
-    ensures { λ a. ⌜ a ≡ placed (now (window .entry)) (fiveOf r) from ⌝ }
+    ensures { result ≡ placed window.now (five_of r) from }
 {
     if !r.fits(window.len()) {
         return 0;
@@ -22,7 +20,7 @@ fn from_of(window: &[u8], r: Record, from: usize) -> usize
 
 // Where the head stands.
 fn head_from(window: &[u8], r: Record) -> usize
-    ensures { λ a. ⌜ a ≡ headView (now (window .entry)) (fiveOf r) .from ⌝ }
+    ensures { result ≡ (head_view window.now (five_of r)).from }
 {
     if !r.fits(window.len()) {
         return 0;
@@ -32,7 +30,7 @@ fn head_from(window: &[u8], r: Record) -> usize
 
 // Where the description stands.
 fn desc_from(window: &[u8], r: Record) -> usize
-    ensures { λ a. ⌜ a ≡ descView (now (window .entry)) (fiveOf r) .from ⌝ }
+    ensures { result ≡ (desc_view window.now (five_of r)).from }
 {
     if !r.has_desc(window) {
         return 0;
@@ -45,7 +43,7 @@ fn desc_from(window: &[u8], r: Record) -> usize
 
 // The view by its number: 0 head, 1 seq, 2 qual, 3 id, 4 description; any other is absent.
 fn view_told(which: usize, window: &[u8], r: Record) -> Told
-    ensures { λ t. ⌜ t ≡ viewTold which (now (window .entry)) (fiveOf r) ⌝ }
+    ensures { result ≡ view_told which window.now (five_of r) }
 {
     if which == 0 {
         let s = r.head(window);
@@ -71,8 +69,7 @@ fn view_told(which: usize, window: &[u8], r: Record) -> Told
 }
 
 // The offset and the length of a view, of a record by its five numbers.
-#[no_mangle]
-pub extern "C" fn fq_view(
+pub fn fq_view(
     values: &mut [usize],
     window: &[u8],
     which: usize,
@@ -82,7 +79,7 @@ pub extern "C" fn fq_view(
     qual: usize,
     end: usize,
 ) -> usize
-    ensures { λ r. ⌜ Shown r (now (values .exit)) (viewCall (now (values .entry)) (viewTold which (now (window .entry)) (five start seq sep qual end))) ⌝ }
+    ensures { Shown result values.new (view_call values.old (view_told which window.now (five start seq sep qual end))) }
 {
     if values.len() < VALUES {
         return 2;

@@ -1,18 +1,16 @@
 // The plain writers. Each is lent an output and writes from a place on; the value is how many bytes.
-use crate::Told;
-use crate::VALUES;
-use crate::brief;
-use crate::put;
+ghost use Rattle.std.specs.Prelude.{◌≡◌};
+ghost use Rattle.reading.specs.Answer.{five};
+ghost use Rattle.writer.specs.Bytes.{given_desc};
+ghost use Rattle.c_interface.specs.Told.{written_told};
+ghost use Rattle.c_interface.specs.Writes.{Puts, write_to, write_parts, write_unchanged};
+
+use crate::{Told, VALUES, brief, put};
 use record::Record;
 use writer::Written;
-ghost use mathlib.Core.Path.{_≡_};
-ghost use Rattle·reading.specs.Answer.{five};
-ghost use Rattle·writer.specs.Bytes.{givenDesc};
-ghost use Rattle·c_interface·specs.specs.Told.{writtenTold};
-ghost use Rattle·c_interface·specs.specs.Writes.{Puts, writeTo, writeParts, writeUnchanged};
 
 fn written_told(answer: Written) -> Told
-    ensures { λ r. ⌜ r ≡ writtenTold answer ⌝ }
+    ensures { result ≡ written_told answer }
 {
     match answer {
         Written::Wrote(n) => brief(0, n, 0),
@@ -21,8 +19,7 @@ fn written_told(answer: Written) -> Told
 }
 
 // A record's four lines.
-#[no_mangle]
-pub extern "C" fn fq_write_to(
+pub fn fq_write_to(
     values: &mut [usize],
     out: &mut [u8],
     at: usize,
@@ -30,7 +27,7 @@ pub extern "C" fn fq_write_to(
     seq: &[u8],
     qual: &[u8],
 ) -> usize
-    ensures { λ r. ⌜ Puts r (now (values .exit)) (now (out .exit)) (writeTo (now (values .entry)) (now (out .entry)) at (now (head .entry)) (now (seq .entry)) (now (qual .entry))) ⌝ }
+    ensures { Puts result values.new out.new (write_to values.old out.old at head.now seq.now qual.now) }
 {
     if values.len() < VALUES {
         return 2;
@@ -42,8 +39,7 @@ pub extern "C" fn fq_write_to(
 }
 
 // The same with a head of an id, and of a space and a description where one is given.
-#[no_mangle]
-pub extern "C" fn fq_write_parts(
+pub fn fq_write_parts(
     values: &mut [usize],
     out: &mut [u8],
     at: usize,
@@ -53,7 +49,7 @@ pub extern "C" fn fq_write_parts(
     seq: &[u8],
     qual: &[u8],
 ) -> usize
-    ensures { λ r. ⌜ Puts r (now (values .exit)) (now (out .exit)) (writeParts (now (values .entry)) (now (out .entry)) at (now (id .entry)) (givenDesc given (now (desc .entry))) (now (seq .entry)) (now (qual .entry))) ⌝ }
+    ensures { Puts result values.new out.new (write_parts values.old out.old at id.now (given_desc given desc.now) seq.now qual.now) }
 {
     if values.len() < VALUES {
         return 2;
@@ -65,8 +61,7 @@ pub extern "C" fn fq_write_parts(
 }
 
 // The window's bytes from a record's start to its end, and LF.
-#[no_mangle]
-pub extern "C" fn fq_write_unchanged(
+pub fn fq_write_unchanged(
     values: &mut [usize],
     out: &mut [u8],
     at: usize,
@@ -77,7 +72,7 @@ pub extern "C" fn fq_write_unchanged(
     qual: usize,
     end: usize,
 ) -> usize
-    ensures { λ r. ⌜ Puts r (now (values .exit)) (now (out .exit)) (writeUnchanged (now (values .entry)) (now (out .entry)) at (now (window .entry)) (five start seq sep qual end)) ⌝ }
+    ensures { Puts result values.new out.new (write_unchanged values.old out.old at window.now (five start seq sep qual end)) }
 {
     if values.len() < VALUES {
         return 2;

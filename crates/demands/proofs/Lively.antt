@@ -1,248 +1,247 @@
 -- NOTHING IS HELD BACK: every answer of the reading is reached, and a request is answered by at least one byte taken.
 -- Assumes nothing.
-use Prim.Native.Nat.{ℕ, zero, suc, _+_, _-_, _≤_, _<_, min}
+use Prim.Native.Nat.{ℕ, zero, suc, ◌+◌, ◌-◌, ◌≤◌, ◌<◌}
 use native.Mathlib.Omega.{arith}
-use native.Mathlib.Decide.{decLe}
+use native.Mathlib.Decide.{dec_le}
 use native.Mathlib.Nat.{add-zero, zero-add}
-use mathlib.Core.Path.{_≡_, refl, sym, ap, _∙_, subst}
-use mathlib.Core.Bool.{Bool, true, false}
-use mathlib.Core.Logic.{_⊎_, inl, inr}
-use mathlib.Core.Option.{Option, none, some}
-use mathlib.Core.List.{List, [], _∷_, _++_}
+use mathlib.Core.Path.{◌≡◌, refl, sym, ap, ◌∙◌}
+use mathlib.Core.Bool.{true, false}
+use mathlib.Core.Logic.{◌⊎◌, inl, inr}
+use mathlib.Core.Option.{Option, some}
+use mathlib.Core.List.{List, [], ◌∷◌}
 use lib.ListN.{length, take, drop, length-append, length-take, length-drop}
 use lib.Seq.{take-length}
-use Rattle·reading.specs.Answer.{Told}
-use Rattle·reading.specs.Answer as read
-use Rattle·reading.specs.Reading.{first}
-use Rattle·reader.specs.declared.Reader.{Reader}
-use Rattle·reader.specs.declared.Opened.the-variants.{Fresh}
-use Rattle·reader.specs.declared.Taken.the-variants as taken
-use Rattle·reader.specs.declared.Answer.{Answer}
-use Rattle·reader.specs.declared.Answer.the-variants.{Record, More, WindowLimit, InvalidStart, InvalidSeparator, UnequalLengths, UnexpectedEnd, End, Refused}
-use Rattle·reader.specs.State.{mostBytes, openOf, freshOf, own}
-use Rattle·reader.specs.Feed.{heldOf, takenOf, feedOf, takingOf, finishOf}
-use Rattle·reader.specs.Next.{nextOf}
-use Rattle·reader.specs.Seek.{base}
-use Rattle·reader.proofs.Owning.{own-true}
-use Rattle·reader.proofs.Refusals.{next-refused}
-use Rattle·reader.specs.Waiting.{Wants}
-use Rattle·reader.proofs.Waiting.{next-wants, ended-answers}
+use Rattle.reading.specs.Answer.{Told}
+use Rattle.reading.specs.Answer as read
+use Rattle.reading.specs.Reading.{first}
+use Rattle.reader.specs.declared.Reader.{Reader}
+use Rattle.reader.specs.declared.Opened.TheVariants.{Fresh}
+use Rattle.reader.specs.declared.Taken.TheVariants as taken
+use Rattle.reader.specs.declared.Answer.{Answer}
+use Rattle.reader.specs.declared.Answer.TheVariants.{Record, More, WindowLimit, InvalidStart, InvalidSeparator, UnequalLengths, UnexpectedEnd, End, Refused}
+use Rattle.reader.specs.State.{most_bytes, open_of, fresh_of}
+use Rattle.reader.specs.Feed.{held_of, taken_of, feed_of, taking_of, finish_of}
+use Rattle.reader.specs.Next.{next_of}
+use Rattle.reader.specs.Seek.{base}
+use Rattle.reader.proofs.Refusals.{next_refused}
+use Rattle.reader.specs.Waiting.{Wants}
+use Rattle.reader.proofs.Waiting.{next_wants, ended_answers}
 use borrow.Author.Tests.{le-leb}
-use Rattle·demands·specs.specs.Runs.{heardOf, placed, addTo, tookOf, Bench, fed, finished, asked, Call, feed, finish, next, Calls, here, then, Opened, Run, Attended, begins, hears, serves, closes}
-use Rattle·demands·proofs.proofs.Standing.{Good, good-own, good-owned}
-use Rattle·demands·proofs.proofs.Chunks.{Stands, front-of, call-step, step-stands, calls-steps, steps-stand, opened-stands, answers-are-the-readings}
-use Rattle·demands·proofs.proofs.Feeds.{took-some}
-use Rattle·demands·proofs.proofs.Early.{next-ended}
+use Rattle.demands.specs.Runs.{heard_of, placed, add_to, took_of, Bench, fed, finished, asked, feed, finish, next, Calls, here, then, Opened, Run, Attended, begins, hears, serves, closes}
+use Rattle.demands.proofs.Standing.{good_own, good_owned}
+use Rattle.demands.proofs.Chunks.{Stands, front_of_lem, call_step, step_stands, calls_steps, steps_stand, opened_stands, answers_are_the_readings}
+use Rattle.demands.proofs.Feeds.{took_some}
+use Rattle.demands.proofs.Early.{next_ended}
 
 -- ---- after the end is announced
 
 -- After the end is announced next never asks for input.
-pub no-request-after-the-end : (B : List ℕ) (b : Bench) → Stands B b → b .reader .ended ≡ true → nextOf (b .reader) (b .window) .answer ≡ More → ⊥
-no-request-after-the-end B b g e f = ended-answers (b .reader) (b .window) (good-own B (b .reader) (b .window) (b .taken) g) e f
+pub no_request_after_the_end : (B : List ℕ) (b : Bench) → Stands B b → b.reader.ended ≡ true → (next_of b.reader b.window).answer ≡ More → ⊥
+no_request_after_the_end B b g e f = ended_answers b.reader b.window (good_own B b.reader b.window b.taken g) e f
 
 -- ---- straight after a request
 
 -- (over plain numbers)
-near-by : (t n c b x m : ℕ) → n ≤ c → c ≤ x → x ≡ b - t → t ≤ m → b ≤ m → t + n ≤ m
-near-by t n c b x m h k e f g = omega arith
+near_by : (t n c b x m : ℕ) → n ≤ c → c ≤ x → x ≡ b - t → t ≤ m → b ≤ m → t + n ≤ m
+near_by t n c b x m h k e f g = omega arith
 
-falls-below : (b t n m : ℕ) → 0 < n → (b ≤ t → ⊥) → b - t < suc m → b - (t + n) < m
-falls-below b t n m h k l = omega arith
+falls_below : (b t n m : ℕ) → 0 < n → (b ≤ t → ⊥) → b - t < suc m → b - (t + n) < m
+falls_below b t n m h k l = omega arith
 
 -- the bench after a request
-module _ (B : List ℕ) (b : Bench) (g : Stands B b) (more : nextOf (b .reader) (b .window) .answer ≡ More) where
+module _ (B : List ℕ) (b : Bench) (g : Stands B b) (more : (next_of b.reader b.window).answer ≡ More) where
   pub after : Stands B (asked b)
-  after = step-stands (call-step (next {b = b})) g
+  after = step_stands (call_step (next {b = b})) g
 
-  pub wants : Wants (asked b .reader)
-  wants = next-wants (b .reader) (b .window) (good-own B (b .reader) (b .window) (b .taken) g) more
+  pub wants : Wants (asked b).reader
+  wants = next_wants b.reader b.window (good_own B b.reader b.window b.taken g) more
 
   -- DEMAND 3. "Straight after a request for input, a nonempty chunk short of the size limit loses at least one byte to us."
-  pub a-byte-is-taken : (chunk : List ℕ) → 0 < length chunk → asked b .reader .byte .0 + heldOf (asked b .reader) + takenOf (asked b .reader) (length chunk) ≤ mostBytes
-      → (n : ℕ) × (feedOf (asked b .reader) (length (b .window)) (length chunk) .answer ≡ taken.Took n) × (0 < n)
-  unfolding feedOf takingOf
-  a-byte-is-taken chunk nonempty near =
-      let o = good-owned B (asked b .reader) (b .window) (b .taken) after in (
-        takenOf (asked b .reader) (length chunk),
-        simp (o, wants .goesOn, wants .waits, le-leb (asked b .reader .byte .0 + heldOf (asked b .reader) + takenOf (asked b .reader) (length chunk)) mostBytes near),
-        omega (arith, wants .room),
+  pub a_byte_is_taken : (chunk : List ℕ) → 0 < length chunk → (asked b).reader.byte.0 + held_of (asked b).reader + taken_of (asked b).reader (length chunk) ≤ most_bytes
+      → (n : ℕ) × ((feed_of (asked b).reader (length b.window) (length chunk)).answer ≡ taken.Took n) × (0 < n)
+  unfolding feed_of taking_of
+  a_byte_is_taken chunk nonempty near =
+      let o = good_owned B (asked b).reader b.window b.taken after in (
+        taken_of (asked b).reader (length chunk),
+        simp (o, wants.goes_on, wants.waits, le-leb ((asked b).reader.byte.0 + held_of (asked b).reader + taken_of (asked b).reader (length chunk)) most_bytes near),
+        omega (arith, wants.room),
       )
 
   -- the input's next bytes do not pass the size limit
-  next-near : (chunk : List ℕ) → chunk ≡ take (length chunk) (drop (b .taken) B) → length B ≤ mostBytes
-      → asked b .reader .byte .0 + heldOf (asked b .reader) + takenOf (asked b .reader) (length chunk) ≤ mostBytes
-  next-near chunk q small =
-      let h = after .holds in
-      let m : length chunk ≤ length (drop (b .taken) B) = omega (arith, ap length q, length-take (length chunk) (drop (b .taken) B)) in
-      let reached : asked b .reader .byte .0 + heldOf (asked b .reader) ≡ b .taken = omega (arith, h .reached, h .startByte, h .startFill) in
-      rw reached (near-by (b .taken) (takenOf (asked b .reader) (length chunk)) (length chunk) (length B) (length (drop (b .taken) B)) mostBytes (omega arith) m (length-drop (b .taken) B) (h .near) small)
+  next_near : (chunk : List ℕ) → chunk ≡ take (length chunk) (drop b.taken B) → length B ≤ most_bytes
+      → (asked b).reader.byte.0 + held_of (asked b).reader + taken_of (asked b).reader (length chunk) ≤ most_bytes
+  next_near chunk q small =
+      let h = after.holds in
+      let m : length chunk ≤ length (drop b.taken B) = omega (arith, ap length q, length-take (length chunk) (drop b.taken B)) in
+      let reached : (asked b).reader.byte.0 + held_of (asked b).reader ≡ b.taken = omega (arith, h.reached, h.start_byte, h.start_fill) in
+      rw reached (near_by b.taken (taken_of (asked b).reader (length chunk)) (length chunk) (length B) (length (drop b.taken B)) most_bytes (omega arith) m (length-drop b.taken B) h.near small)
 
   -- so of a nonempty chunk of them at least one is taken
-  pub takes : (chunk : List ℕ) → 0 < length chunk → chunk ≡ take (length chunk) (drop (b .taken) B) → length B ≤ mostBytes
-      → 0 < tookOf (feedOf (asked b .reader) (length (b .window)) (length chunk) .answer)
-  takes chunk nonempty q small = let t = a-byte-is-taken chunk nonempty (next-near chunk q small) in rw (t .1) (t .2)
+  pub takes : (chunk : List ℕ) → 0 < length chunk → chunk ≡ take (length chunk) (drop b.taken B) → length B ≤ most_bytes
+      → 0 < took_of (feed_of (asked b).reader (length b.window) (length chunk)).answer
+  takes chunk nonempty q small = let t = a_byte_is_taken chunk nonempty (next_near chunk q small) in rw t.1 t.2
 
   -- and finish is accepted
-  pub finish-accepted : finishOf (asked b .reader) (length (b .window)) .state .ended ≡ true
-  unfolding finishOf
-  finish-accepted = let o = good-owned B (asked b .reader) (b .window) (b .taken) after in simp (o, wants .goesOn, wants .waits)
+  pub finish_accepted : (finish_of (asked b).reader (length b.window)).state.ended ≡ true
+  unfolding finish_of
+  finish_accepted = let o = good_owned B (asked b).reader b.window b.taken after in simp (o, wants.goes_on, wants.waits)
 
 -- ---- every answer is reached
 
-pub calls-join : {B : List ℕ} {a b c : Bench} → Calls B a b → Calls B b c → Calls B a c
-calls-join x here = x
-calls-join x (then y c) = then (calls-join x y) c
+pub calls_join : {B : List ℕ} {a b c : Bench} → Calls B a b → Calls B b c → Calls B a c
+calls_join x here = x
+calls_join x (then y c) = then (calls_join x y) c
 
 -- an answer that is neither a request nor a refusal is heard
-heard-else : (k : ℕ) (a : Answer) → (a ≡ More) ⊎ (((n : ℕ) × (a ≡ Refused n)) ⊎ ((x : read.Answer) × (heardOf k a ≡ some x)))
-heard-else k (Record r b) = inr (inr (_, refl))
-heard-else k More = inl refl
-heard-else k (WindowLimit L b) = inr (inr (_, refl))
-heard-else k (InvalidStart x L) = inr (inr (_, refl))
-heard-else k (InvalidSeparator x L i) = inr (inr (_, refl))
-heard-else k (UnequalLengths n m L i) = inr (inr (_, refl))
-heard-else k (UnexpectedEnd L i) = inr (inr (_, refl))
-heard-else k End = inr (inr (_, refl))
-heard-else k (Refused n) = inr (inl (n, refl))
+heard_else : (k : ℕ) (a : Answer) → (a ≡ More) ⊎ (((n : ℕ) × (a ≡ Refused n)) ⊎ ((x : read.Answer) × (heard_of k a ≡ some x)))
+heard_else k (Record r b) = inr (inr (_, refl))
+heard_else k More = inl refl
+heard_else k (WindowLimit L b) = inr (inr (_, refl))
+heard_else k (InvalidStart x L) = inr (inr (_, refl))
+heard_else k (InvalidSeparator x L i) = inr (inr (_, refl))
+heard_else k (UnequalLengths n m L i) = inr (inr (_, refl))
+heard_else k (UnexpectedEnd L i) = inr (inr (_, refl))
+heard_else k End = inr (inr (_, refl))
+heard_else k (Refused n) = inr (inl (n, refl))
 
 -- from here a bench can be brought to its next answer
 record Leads (B : List ℕ) (b : Bench) : Type 0 where
   to : Bench
   calls : Calls B b to
-  one : length (to .heard) ≡ suc (length (b .heard))
+  one : length to.heard ≡ suc (length b.heard)
 
-one-more : (ts : List Told) (s : Reader) (a : Option read.Answer) (x : read.Answer) → a ≡ some x → length (addTo ts s a) ≡ suc (length ts)
-one-more ts s a x e = rw e (length-append ts (placed s x ∷ []) ∙ omega arith)
+one_more : (ts : List Told) (s : Reader) (a : Option read.Answer) (x : read.Answer) → a ≡ some x → length (add_to ts s a) ≡ suc (length ts)
+one_more ts s a x e = rw e (length-append ts (placed s x ∷ []) ∙ omega arith)
 
-module _ (B : List ℕ) (small : length B ≤ mostBytes) where
+module _ (B : List ℕ) (small : length B ≤ most_bytes) where
   -- next answers, or asks
-  asks-or-leads : (b : Bench) → Stands B b → (nextOf (b .reader) (b .window) .answer ≡ More) ⊎ Leads B b
-  asks-or-leads b g = go (heard-else (base (nextOf (b .reader) (b .window) .state)) (nextOf (b .reader) (b .window) .answer))
+  asks_or_leads : (b : Bench) → Stands B b → ((next_of b.reader b.window).answer ≡ More) ⊎ Leads B b
+  asks_or_leads b g = go (heard_else (base (next_of b.reader b.window).state) (next_of b.reader b.window).answer)
     where
-      go : (nextOf (b .reader) (b .window) .answer ≡ More)
-          ⊎ (((n : ℕ) × (nextOf (b .reader) (b .window) .answer ≡ Refused n)) ⊎ ((x : read.Answer) × (heardOf (base (nextOf (b .reader) (b .window) .state)) (nextOf (b .reader) (b .window) .answer) ≡ some x)))
-          → (nextOf (b .reader) (b .window) .answer ≡ More) ⊎ Leads B b
+      go : ((next_of b.reader b.window).answer ≡ More)
+          ⊎ (((n : ℕ) × ((next_of b.reader b.window).answer ≡ Refused n)) ⊎ ((x : read.Answer) × (heard_of (base (next_of b.reader b.window).state) (next_of b.reader b.window).answer ≡ some x)))
+          → ((next_of b.reader b.window).answer ≡ More) ⊎ Leads B b
       go (inl e) = inl e
       go (inr (inl (n, e))) =
-          let o = good-owned B (b .reader) (b .window) (b .taken) g in
-          let f = next-refused (b .reader) (b .window) n e .0 in
-          let z : _≡_ {A = ℕ} 0 1 = cc in
+          let o = good_owned B b.reader b.window b.taken g in
+          let f = (next_refused b.reader b.window n e).0 in
+          let z : ◌≡◌ {A = ℕ} 0 1 = cc in
           absurd (omega arith)
-      go (inr (inr (x, e))) = inr (record { to = asked b; calls = then here next; one = one-more (b .heard) (nextOf (b .reader) (b .window) .state) _ x e })
+      go (inr (inr (x, e))) = inr (record { to = asked b; calls = then here next; one = one_more b.heard (next_of b.reader b.window).state _ x e })
 
   -- after the end is announced, next answers
-  ended-leads : (b : Bench) → Stands B b → b .reader .ended ≡ true → Leads B b
-  ended-leads b g e = go (asks-or-leads b g)
+  ended_leads : (b : Bench) → Stands B b → b.reader.ended ≡ true → Leads B b
+  ended_leads b g e = go (asks_or_leads b g)
     where
-      go : (nextOf (b .reader) (b .window) .answer ≡ More) ⊎ Leads B b → Leads B b
-      go (inl f) = absurd (no-request-after-the-end B b g e f)
+      go : ((next_of b.reader b.window).answer ≡ More) ⊎ Leads B b → Leads B b
+      go (inl f) = absurd (no_request_after_the_end B b g e f)
       go (inr l) = l
 
-  leads : (m : ℕ) (b : Bench) → Stands B b → length B - b .taken < m → Leads B b
+  leads : (m : ℕ) (b : Bench) → Stands B b → length B - b.taken < m → Leads B b
   leads zero b g h = absurd (omega arith)
-  leads (suc m) b g h = go (asks-or-leads b g) (λ c g′ l. leads m c g′ l)
+  leads (suc m) b g h = go (asks_or_leads b g) (λ c g' l. leads m c g' l)
     where
-      on : (c : Bench) → Calls B b c → length (c .heard) ≡ length (b .heard) → Leads B c → Leads B b
-      on c x q l = record { to = l .to; calls = calls-join x (l .calls); one = l .one ∙ ap suc q }
+      on : (c : Bench) → Calls B b c → length c.heard ≡ length b.heard → Leads B c → Leads B b
+      on c x q l = record { to = l.to; calls = calls_join x l.calls; one = l.one ∙ ap suc q }
 
       -- nothing is heard by a request
-      silent : nextOf (b .reader) (b .window) .answer ≡ More → length (asked b .heard) ≡ length (b .heard)
+      silent : (next_of b.reader b.window).answer ≡ More → length (asked b).heard ≡ length b.heard
       silent f = rw f
 
-      rest : nextOf (b .reader) (b .window) .answer ≡ More → Dec (length B ≤ b .taken) → ((c : Bench) → Stands B c → length B - c .taken < m → Leads B c) → Leads B b
+      rest : (next_of b.reader b.window).answer ≡ More → Dec (length B ≤ b.taken) → ((c : Bench) → Stands B c → length B - c.taken < m → Leads B c) → Leads B b
       rest f (yes k) again =
           let c : Bench = finished (asked b) in
           let x : Calls B b c = then (then here next) (finish k) in
-          on c x (silent f) (ended-leads c (step-stands (call-step (finish {b = asked b} k)) (after B b g f)) (finish-accepted B b g f))
+          on c x (silent f) (ended_leads c (step_stands (call_step (finish {b = asked b} k)) (after B b g f)) (finish_accepted B b g f))
       rest f (no k) again =
-          let chunk : List ℕ = drop (b .taken) B in
-          let q : chunk ≡ take (length chunk) (drop (b .taken) B) = sym (take-length chunk) in
-          let nonempty : 0 < length chunk = omega (arith, length-drop (b .taken) B) in
+          let chunk : List ℕ = drop b.taken B in
+          let q : chunk ≡ take (length chunk) (drop b.taken B) = sym (take-length chunk) in
+          let nonempty : 0 < length chunk = omega (arith, length-drop b.taken B) in
           let c : Bench = fed (asked b) chunk in
           on c (then (then here next) (feed chunk q)) (silent f)
-          (again c (step-stands (call-step (feed {b = asked b} chunk q)) (after B b g f)) (falls-below (length B) (b .taken) _ m (takes B b g f chunk nonempty q small) k h))
+          (again c (step_stands (call_step (feed {b = asked b} chunk q)) (after B b g f)) (falls_below (length B) b.taken _ m (takes B b g f chunk nonempty q small) k h))
 
-      go : (nextOf (b .reader) (b .window) .answer ≡ More) ⊎ Leads B b → ((c : Bench) → Stands B c → length B - c .taken < m → Leads B c) → Leads B b
-      go (inl f) again = rest f (decLe (length B) (b .taken)) again
+      go : ((next_of b.reader b.window).answer ≡ More) ⊎ Leads B b → ((c : Bench) → Stands B c → length B - c.taken < m → Leads B c) → Leads B b
+      go (inl f) again = rest f (dec_le (length B) b.taken) again
       go (inr l) again = l
 
   -- as many answers as are asked for
-  reaches : (n : ℕ) (b : Bench) → Stands B b → (c : Bench) × Calls B b c × (length (c .heard) ≡ length (b .heard) + n)
-  reaches zero b g = (b, here, sym (add-zero (length (b .heard))))
+  reaches : (n : ℕ) (b : Bench) → Stands B b → (c : Bench) × Calls B b c × (length c.heard ≡ length b.heard + n)
+  reaches zero b g = (b, here, sym (add-zero (length b.heard)))
   reaches (suc n) b g =
-      let l = leads (suc (length B - b .taken)) b g (omega arith) in
-      let (c, x, e) = reaches n (l .to) (steps-stand (calls-steps (l .calls)) g) in
-      (c, calls-join (l .calls) x, e ∙ omega (arith, l .one))
+      let l = leads (suc (length B - b.taken)) b g (omega arith) in
+      let (c, x, e) = reaches n l.to (steps_stand (calls_steps l.calls) g) in
+      (c, calls_join l.calls x, e ∙ omega (arith, l.one))
 
 -- a bench that open gives, with any window of W bytes
-pub freshBench : ℕ → List ℕ → Bench
-freshBench W w = record { reader = freshOf W; window = w; taken = 0; heard = [] }
+pub fresh_bench : ℕ → List ℕ → Bench
+fresh_bench W w = record { reader = fresh_of W; window = w; taken = 0; heard = [] }
 
 -- NOTHING IS HELD BACK: for every n there is a run whose answers are the first n of the reading.
-pub every-answer-is-reached : (B : List ℕ) (W : ℕ) (w : List ℕ) → length B ≤ mostBytes → openOf W ≡ Fresh (freshOf W) → length w ≡ W → (n : ℕ)
-    → (b : Bench) × Run B W b × (b .heard ≡ first n B W 0 1)
-unfolding freshBench
-every-answer-is-reached B W w small o e n =
-    let a : Bench = freshBench W w in
+pub every_answer_is_reached : (B : List ℕ) (W : ℕ) (w : List ℕ) → length B ≤ most_bytes → open_of W ≡ Fresh (fresh_of W) → length w ≡ W → (n : ℕ)
+    → (b : Bench) × Run B W b × (b.heard ≡ first n B W 0 1)
+unfolding fresh_bench
+every_answer_is_reached B W w small o e n =
+    let a : Bench = fresh_bench W w in
     let opened : Opened W a = record { fresh = o; wide = e; none = refl; silent = refl } in
-    let (b, x, l) = reaches B small n a (opened-stands B W a opened) in
+    let (b, x, l) = reaches B small n a (opened_stands B W a opened) in
     let r : Run B W b = record { start = a; opened = opened; calls = x } in
-    let q : length (b .heard) ≡ n = l ∙ zero-add n in
-    (b, r, answers-are-the-readings B W b r ∙ ap (λ (k : ℕ). first k B W 0 1) q)
+    let q : length b.heard ≡ n = l ∙ zero-add n in
+    (b, r, answers_are_the_readings B W b r ∙ ap (λ (k : ℕ). first k B W 0 1) q)
 
 -- ---- how many requests there are
 
 -- the requests so far: one for each byte taken at most, and one for the end
 record Counted (B : List ℕ) (b : Bench) (k : ℕ) : Type 0 where
   stands : Stands B b
-  within : b .taken ≤ length B
-  few : k ≤ suc (b .taken)
-  fewer : b .reader .ended ≡ false → k ≤ b .taken
+  within : b.taken ≤ length B
+  few : k ≤ suc b.taken
+  fewer : b.reader.ended ≡ false → k ≤ b.taken
 
-module _ (B : List ℕ) (small : length B ≤ mostBytes) (b : Bench) (k : ℕ) (c : Counted B b k) where
-  heard-counted : Counted B (asked b) k
-  heard-counted =
+module _ (B : List ℕ) (small : length B ≤ most_bytes) (b : Bench) (k : ℕ) (c : Counted B b k) where
+  heard_counted : Counted B (asked b) k
+  heard_counted =
       record {
-        stands = step-stands (call-step (next {b = b})) (c .stands);
-        within = c .within;
-        few = c .few;
-        fewer = λ e. c .fewer (sym (next-ended (b .reader) (b .window)) ∙ e);
+        stands = step_stands (call_step (next {b = b})) c.stands;
+        within = c.within;
+        few = c.few;
+        fewer = λ e. c.fewer (sym (next_ended b.reader b.window) ∙ e);
       }
 
   -- a request comes before the end is noted
-  open-count : nextOf (b .reader) (b .window) .answer ≡ More → k ≤ b .taken
-  open-count f = c .fewer (sym (next-ended (b .reader) (b .window)) ∙ wants B b (c .stands) f .goesOn)
+  open_count : (next_of b.reader b.window).answer ≡ More → k ≤ b.taken
+  open_count f = c.fewer (sym (next_ended b.reader b.window) ∙ (wants B b c.stands f).goes_on)
 
-  served-counted : nextOf (b .reader) (b .window) .answer ≡ More → (chunk : List ℕ) → 0 < length chunk → chunk ≡ take (length chunk) (drop (b .taken) B) → Counted B (fed (asked b) chunk) (suc k)
-  served-counted f chunk nonempty q =
-      let t = takes B b (c .stands) f chunk nonempty q small in
-      let s = front-of B chunk (b .taken) (tookOf (feedOf (asked b .reader) (length (b .window)) (length chunk) .answer)) (took-some (asked b .reader) (length (b .window)) (length chunk)) q .1 in
-      let n = open-count f in
+  served_counted : (next_of b.reader b.window).answer ≡ More → (chunk : List ℕ) → 0 < length chunk → chunk ≡ take (length chunk) (drop b.taken B) → Counted B (fed (asked b) chunk) (suc k)
+  served_counted f chunk nonempty q =
+      let t = takes B b c.stands f chunk nonempty q small in
+      let s = (front_of_lem B chunk b.taken (took_of (feed_of (asked b).reader (length b.window) (length chunk)).answer) (took_some (asked b).reader (length b.window) (length chunk)) q).1 in
+      let n = open_count f in
       record {
-        stands = step-stands (call-step (feed {b = asked b} chunk q)) (after B b (c .stands) f);
-        within = omega (arith, s, length-drop (b .taken) B, c .within);
+        stands = step_stands (call_step (feed {b = asked b} chunk q)) (after B b c.stands f);
+        within = omega (arith, s, length-drop b.taken B, c.within);
         few = omega (arith, t, n);
         fewer = λ e. omega (arith, t, n);
       }
 
-  closed-counted : nextOf (b .reader) (b .window) .answer ≡ More → length B ≤ b .taken → Counted B (finished (asked b)) (suc k)
-  closed-counted f q =
-      let n = open-count f in
+  closed_counted : (next_of b.reader b.window).answer ≡ More → length B ≤ b.taken → Counted B (finished (asked b)) (suc k)
+  closed_counted f q =
+      let n = open_count f in
       record {
-        stands = step-stands (call-step (finish {b = asked b} q)) (after B b (c .stands) f);
-        within = c .within;
+        stands = step_stands (call_step (finish {b = asked b} q)) (after B b c.stands f);
+        within = c.within;
         few = omega (arith, n);
-        fewer = λ e. let h = finish-accepted B b (c .stands) f in let z : _≡_ {A = ℕ} 0 1 = cc in absurd (omega arith);
+        fewer = λ e. let h = finish_accepted B b c.stands f in let z : ◌≡◌ {A = ℕ} 0 1 = cc in absurd (omega arith);
       }
 
-attended-counted : {B : List ℕ} {a b : Bench} {k : ℕ} → length B ≤ mostBytes → Attended B a b k → Counted B a 0 → Counted B b k
-attended-counted small begins g = g
-attended-counted {B = B} small (hears {b = b} {k = k} x f) g = heard-counted B small b k (attended-counted small x g)
-attended-counted {B = B} small (serves {b = b} {k = k} x f chunk nonempty q) g = served-counted B small b k (attended-counted small x g) f chunk nonempty q
-attended-counted {B = B} small (closes {b = b} {k = k} x f q) g = closed-counted B small b k (attended-counted small x g) f q
+attended_counted : {B : List ℕ} {a b : Bench} {k : ℕ} → length B ≤ most_bytes → Attended B a b k → Counted B a 0 → Counted B b k
+attended_counted small begins g = g
+attended_counted {B = B} small (hears {b = b} {k = k} x f) g = heard_counted B small b k (attended_counted small x g)
+attended_counted {B = B} small (serves {b = b} {k = k} x f chunk nonempty q) g = served_counted B small b k (attended_counted small x g) f chunk nonempty q
+attended_counted {B = B} small (closes {b = b} {k = k} x f q) g = closed_counted B small b k (attended_counted small x g) f q
 
 -- A BOUND ON REQUESTS: where every request is answered, there are at most as many as the input has bytes, and one.
-pub requests-are-few : (B : List ℕ) (W : ℕ) (a b : Bench) (k : ℕ) → length B ≤ mostBytes → Opened W a → Attended B a b k → k ≤ length B + 1
-requests-are-few B W a b k small o x =
-    let c = attended-counted small x (record { stands = opened-stands B W a o; within = rw (o .none) (omega arith); few = omega arith; fewer = λ e. omega arith }) in
-    omega (arith, c .few, c .within)
+pub requests_are_few : (B : List ℕ) (W : ℕ) (a b : Bench) (k : ℕ) → length B ≤ most_bytes → Opened W a → Attended B a b k → k ≤ length B + 1
+requests_are_few B W a b k small o x =
+    let c = attended_counted small x (record { stands = opened_stands B W a o; within = rw o.none (omega arith); few = omega arith; fewer = λ e. omega arith }) in
+    omega (arith, c.few, c.within)

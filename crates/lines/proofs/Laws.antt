@@ -1,118 +1,118 @@
 -- Laws of the line search, of `trim_cr`, and of parts of a list.
 -- Assumes nothing.
-use mathlib.Core.Path.{_≡_, refl, sym, ap, _∙_}
+use mathlib.Core.Path.{◌≡◌, refl, sym, ap, ◌∙◌}
 use mathlib.Core.Bool.{Bool, true, false, cond}
-use mathlib.Core.List.{List, [], _∷_}
-use Prim.Native.Nat.{ℕ, zero, suc, _+_, _-_, _<_, _≤_, min}
-use native.Mathlib.Numerals.{add-one, unary-clauses}
+use mathlib.Core.List.{List, [], ◌∷◌}
+use Prim.Native.Nat.{ℕ, zero, suc, ◌+◌, ◌-◌, ◌<◌, ◌≤◌, min}
+use native.Mathlib.Numerals.{add-one, unary_clauses}
 use native.Mathlib.Nat.{zero-sub}
 use native.Mathlib.Omega.{arith}
 use lib.Dec.{eqb}
-use lib.ListN.{length, getD, take, drop, drop-of-length-le, length-take, length-drop}
+use lib.ListN.{length, get_or, take, drop, drop_of_length-le, length-take, length-drop}
 use lib.Seq.{drop-cons, drop-drop, drop-nil, take-nil, slice}
-use borrow.Author.Tests.{eq-eqb, ne-eqb}
-use Rattle·reading.specs.Bytes.{LF, CR, byteAt, keep, lineEnds, trimCr}
-use Rattle·lines·specs.specs.declared.Found.the-variants.{At, Nothing}
-use Rattle·lines·specs.specs.Lines.{firstOf, lineFrom}
+use borrow.Author.Tests.{eq-eqb, ne_eqb}
+use Rattle.reading.specs.Bytes.{LF, CR, byte_at, keep, line_ends, trim_cr}
+use Rattle.lines.specs.declared.Found.TheVariants.{At, Nothing}
+use Rattle.lines.specs.Lines.{first_of, line_from}
 
 -- ---- line ends
 
 -- an LF at i is the first line end from i on
-pub ends-here : (s : List ℕ) (i : ℕ) → i < length s → byteAt s i ≡ LF → lineEnds i (drop i s) ≡ i ∷ lineEnds (i + 1) (drop (i + 1) s)
-unfolding lineEnds
-ends-here s i h e = rw (drop-cons s i 0) (simp (eq-eqb (getD s i 0) 10 e, add-one))
+pub ends_here : (s : List ℕ) (i : ℕ) → i < length s → byte_at s i ≡ LF → line_ends i (drop i s) ≡ i ∷ line_ends (i + 1) (drop (i + 1) s)
+unfolding line_ends
+ends_here s i h e = rw (drop-cons s i 0) (simp (eq-eqb (get_or s i 0) 10 e, add-one))
 
 -- any other byte at i is passed
-pub ends-on : (s : List ℕ) (i : ℕ) → i < length s → (byteAt s i ≡ LF → ⊥) → lineEnds i (drop i s) ≡ lineEnds (i + 1) (drop (i + 1) s)
-unfolding lineEnds
-ends-on s i h e = rw (drop-cons s i 0) (simp (ne-eqb (getD s i 0) 10 e, add-one))
+pub ends_on : (s : List ℕ) (i : ℕ) → i < length s → (byte_at s i ≡ LF → ⊥) → line_ends i (drop i s) ≡ line_ends (i + 1) (drop (i + 1) s)
+unfolding line_ends
+ends_on s i h e = rw (drop-cons s i 0) (simp (ne_eqb (get_or s i 0) 10 e, add-one))
 
 -- past the end there are no line ends
-pub ends-past : (s : List ℕ) (i : ℕ) → length s ≤ i → lineEnds i (drop i s) ≡ []
-unfolding lineEnds
-ends-past s i h = rw drop-of-length-le
+pub ends_past : (s : List ℕ) (i : ℕ) → length s ≤ i → line_ends i (drop i s) ≡ []
+unfolding line_ends
+ends_past s i h = rw drop_of_length-le
 
 -- ---- the line search
 
 -- an LF at i is what a search from i finds
-pub line-here : (s : List ℕ) (i : ℕ) → i < length s → byteAt s i ≡ LF → At i ≡ lineFrom s i
-unfolding lineFrom
-line-here s i h e = sym (ap firstOf (ends-here s i h e))
+pub line_here : (s : List ℕ) (i : ℕ) → i < length s → byte_at s i ≡ LF → At i ≡ line_from s i
+unfolding line_from
+line_here s i h e = sym (ap first_of (ends_here s i h e))
 
 -- past any other byte a search from i goes on at i + 1
-pub line-on : (s : List ℕ) (i : ℕ) → i < length s → (byteAt s i ≡ LF → ⊥) → lineFrom s i ≡ lineFrom s (i + 1)
-unfolding lineFrom
-line-on s i h e = ap firstOf (ends-on s i h e)
+pub line_on : (s : List ℕ) (i : ℕ) → i < length s → (byte_at s i ≡ LF → ⊥) → line_from s i ≡ line_from s (i + 1)
+unfolding line_from
+line_on s i h e = ap first_of (ends_on s i h e)
 
 -- a search that starts past the end finds nothing
-pub line-past : (s : List ℕ) (i : ℕ) → length s ≤ i → lineFrom s i ≡ Nothing
-unfolding lineFrom
-line-past s i h = ap firstOf (ends-past s i h)
+pub line_past : (s : List ℕ) (i : ℕ) → length s ≤ i → line_from s i ≡ Nothing
+unfolding line_from
+line_past s i h = ap first_of (ends_past s i h)
 
 -- i is the first line end of s at or after `from`
 pub record Next (s : List ℕ) (from i : ℕ) : Type 0 where
   pub behind : from ≤ i
   pub inside : i < length s
-  pub ends : lineEnds from (drop from s) ≡ i ∷ lineEnds (i + 1) (drop (i + 1) s)
+  pub ends : line_ends from (drop from s) ≡ i ∷ line_ends (i + 1) (drop (i + 1) s)
 
 -- the same of bytes the first of which has offset o: i is k bytes on
 record Ahead (o : ℕ) (l : List ℕ) (i k : ℕ) : Type 0 where
   far : i ≡ o + k
   inside : k < length l
-  ends : lineEnds o l ≡ i ∷ lineEnds (suc i) (drop (suc k) l)
+  ends : line_ends o l ≡ i ∷ line_ends (suc i) (drop (suc k) l)
 
 -- the first of the line ends is so far ahead
-ahead : (o : ℕ) (l : List ℕ) (i : ℕ) → firstOf (lineEnds o l) ≡ At i → (k : ℕ) × Ahead o l i k
-unfolding lineEnds
-ahead o [] i e = let z : _≡_ {A = ℕ} 0 1 = cc in absurd (omega arith)
+ahead : (o : ℕ) (l : List ℕ) (i : ℕ) → first_of (line_ends o l) ≡ At i → (k : ℕ) × Ahead o l i k
+unfolding line_ends
+ahead o [] i e = let z : ◌≡◌ {A = ℕ} 0 1 = cc in absurd (omega arith)
 ahead o (b ∷ l) i e = by (eqb b LF) refl e (λ g. ahead (suc o) l i g) where
-  by : (t : Bool) → eqb b LF ≡ t → firstOf (keep t o (lineEnds (suc o) l)) ≡ At i → (firstOf (lineEnds (suc o) l) ≡ At i → (k : ℕ) × Ahead (suc o) l i k)
+  by : (t : Bool) → eqb b LF ≡ t → first_of (keep t o (line_ends (suc o) l)) ≡ At i → (first_of (line_ends (suc o) l) ≡ At i → (k : ℕ) × Ahead (suc o) l i k)
       → (k : ℕ) × Ahead o (b ∷ l) i k
   by true q e f = let z : o ≡ i = cc in (0, record { far = omega arith; inside = omega arith; ends = rw (q, z) })
-  by false q e f = let a = f e in (suc (a .0), record { far = omega arith; inside = omega arith; ends = rw q (a .1 .ends) })
+  by false q e f = let a = f e in (suc a.0, record { far = omega arith; inside = omega arith; ends = rw q a.1.ends })
 
 -- what a search finds is the first line end, and the others follow it
-pub line-found : (s : List ℕ) (from i : ℕ) → lineFrom s from ≡ At i → Next s from i
-unfolding lineFrom
-line-found s from i e =
+pub line_found : (s : List ℕ) (from i : ℕ) → line_from s from ≡ At i → Next s from i
+unfolding line_from
+line_found s from i e =
     let a = ahead from (drop from s) i e in
-    let q : from + suc (a .0) ≡ i + 1 = omega (arith, a .1 .far) in
+    let q : from + suc a.0 ≡ i + 1 = omega (arith, a.1.far) in
     record {
-      behind = omega (arith, a .1 .far);
-      inside = omega (arith, a .1 .far, a .1 .inside, length-drop from s);
-      ends = a .1 .ends ∙ rw (drop-drop, q, add-one);
+      behind = omega (arith, a.1.far);
+      inside = omega (arith, a.1.far, a.1.inside, length-drop from s);
+      ends = a.1.ends ∙ rw (drop-drop, q, add-one);
     }
 
 -- a search that finds nothing has no line end ahead
-pub line-none : (s : List ℕ) (from : ℕ) → lineFrom s from ≡ Nothing → lineEnds from (drop from s) ≡ []
-unfolding lineFrom
-line-none s from e = none (lineEnds from (drop from s)) e where
-  none : (es : List ℕ) → firstOf es ≡ Nothing → es ≡ []
+pub line_none : (s : List ℕ) (from : ℕ) → line_from s from ≡ Nothing → line_ends from (drop from s) ≡ []
+unfolding line_from
+line_none s from e = none (line_ends from (drop from s)) e where
+  none : (es : List ℕ) → first_of es ≡ Nothing → es ≡ []
   none [] e = refl
-  none (x ∷ es) e = let z : _≡_ {A = ℕ} 0 1 = cc in absurd (omega arith)
+  none (x ∷ es) e = let z : ◌≡◌ {A = ℕ} 0 1 = cc in absurd (omega arith)
 
 -- ---- `trim_cr`
 
 -- without a final carriage return all stays
-pub trim-whole : (s : List ℕ) → (byteAt s (length s - 1) ≡ CR → ⊥) → s ≡ trimCr s
-unfolding trimCr
-trim-whole s h = simp (ne-eqb (getD s (length s - 1) 0) 13 h)
+pub trim_whole : (s : List ℕ) → (byte_at s (length s - 1) ≡ CR → ⊥) → s ≡ trim_cr s
+unfolding trim_cr
+trim_whole s h = simp (ne_eqb (get_or s (length s - 1) 0) 13 h)
 
 -- a final carriage return is taken off
-pub trim-cr : (s : List ℕ) → byteAt s (length s - 1) ≡ CR → take (length s - 1) s ≡ trimCr s
-unfolding trimCr
-trim-cr s h = simp (eq-eqb (getD s (length s - 1) 0) 13 h)
+pub trim_cr_lem : (s : List ℕ) → byte_at s (length s - 1) ≡ CR → take (length s - 1) s ≡ trim_cr s
+unfolding trim_cr
+trim_cr_lem s h = simp (eq-eqb (get_or s (length s - 1) 0) 13 h)
 
 -- no bytes stay no bytes
-pub trim-none : (s : List ℕ) → length s ≤ 0 → s ≡ trimCr s
-unfolding trimCr
-trim-none [] h = refl
-trim-none (x ∷ s) h = absurd (omega (arith, h))
+pub trim_none : (s : List ℕ) → length s ≤ 0 → s ≡ trim_cr s
+unfolding trim_cr
+trim_none [] h = refl
+trim_none (x ∷ s) h = absurd (omega (arith, h))
 
 -- no byte is added
-pub trim-short : (s : List ℕ) → length (trimCr s) ≤ length s
-unfolding trimCr
-trim-short s = by (eqb (byteAt s (length s - 1)) CR) where
+pub trim_short : (s : List ℕ) → length (trim_cr s) ≤ length s
+unfolding trim_cr
+trim_short s = by (eqb (byte_at s (length s - 1)) CR) where
   by : (t : Bool) → length (cond t (take (length s - 1) s) s) ≤ length s
   by true = simp length-take (omega arith)
   by false = omega arith
@@ -121,27 +121,27 @@ trim-short s = by (eqb (byteAt s (length s - 1)) CR) where
 
 -- the bytes from f up to t are the first t - f of those from f on
 pub slice-take : (f t : ℕ) (l : List ℕ) → slice f t l ≡ take (t - f) (drop f l)
-slice-take zero t l = simp unary-clauses
+slice-take zero t l = simp unary_clauses
 slice-take (suc f) zero l = rw zero-sub
 slice-take (suc f) (suc t) [] = sym (take-nil (suc t - suc f))
-slice-take (suc f) (suc t) (x ∷ l) = simp unary-clauses (slice-take f t l)
+slice-take (suc f) (suc t) (x ∷ l) = simp unary_clauses (slice-take f t l)
 
 -- taking more than there is takes all
-pub take-within : (n : ℕ) (l : List ℕ) → take (min n (length l)) l ≡ take n l
-take-within zero l = simp unary-clauses
-take-within (suc n) [] = take-nil (min (suc n) 0)
-take-within (suc n) (x ∷ l) = simp unary-clauses (ap (λ (r : List ℕ). x ∷ r) (take-within n l))
+pub take_within : (n : ℕ) (l : List ℕ) → take (min n (length l)) l ≡ take n l
+take_within zero l = simp unary_clauses
+take_within (suc n) [] = take-nil (min (suc n) 0)
+take_within (suc n) (x ∷ l) = simp unary_clauses (ap (λ (r : List ℕ). x ∷ r) (take_within n l))
 
 -- dropping more than there is drops all
-pub drop-within : (n : ℕ) (l : List ℕ) → drop (min n (length l)) l ≡ drop n l
-drop-within zero l = simp unary-clauses
-drop-within (suc n) [] = drop-nil (min (suc n) 0)
-drop-within (suc n) (x ∷ l) = simp unary-clauses (drop-within n l)
+pub drop_within : (n : ℕ) (l : List ℕ) → drop (min n (length l)) l ≡ drop n l
+drop_within zero l = simp unary_clauses
+drop_within (suc n) [] = drop-nil (min (suc n) 0)
+drop_within (suc n) (x ∷ l) = simp unary_clauses (drop_within n l)
 
 -- a part that would end past the list ends with it
-pub slice-within : (f t : ℕ) (l : List ℕ) → slice f (min t (length l)) l ≡ slice f t l
-slice-within f t l = ap (λ (r : List ℕ). drop f r) (take-within t l)
+pub slice_within : (f t : ℕ) (l : List ℕ) → slice f (min t (length l)) l ≡ slice f t l
+slice_within f t l = ap (λ (r : List ℕ). drop f r) (take_within t l)
 
 -- no bytes stand from past the end on
-pub slice-past : (f t : ℕ) (l : List ℕ) → min t (length l) ≤ f → slice f t l ≡ []
-slice-past f t l h = drop-of-length-le (take t l) {i = f} (simp length-take h)
+pub slice_past : (f t : ℕ) (l : List ℕ) → min t (length l) ≤ f → slice f t l ≡ []
+slice_past f t l h = drop_of_length-le (take t l) {i = f} (simp length-take h)

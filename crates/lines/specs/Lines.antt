@@ -1,25 +1,23 @@
 -- What the leaves answer and leave behind.
 -- Assumes nothing.
-use Prim.Native.Nat.{ℕ}
-use mathlib.Core.List.{List, [], _∷_, _++_}
-use lib.ListN.{length, take, drop}
-use lib.Seq.{slice}
-use Rattle·reading.specs.Bytes.{lineEnds}
-use Rattle·lines·specs.specs.declared.Found.{Found}
-use Rattle·lines·specs.specs.declared.Found.the-variants.{At, Nothing}
+use Rattle.std.specs.Prelude.{ℕ, List, [], ◌∷◌, ◌++◌, length, take, drop}
+use Rattle.std.proofs.Math.Seq.{slice}
+use Rattle.reading.specs.Bytes.{line_ends}
+use Rattle.lines.specs.declared.Found.{Found}
+use Rattle.lines.specs.declared.Found.TheVariants.{At, Nothing}
 
-abbrev pub firstOf : List ℕ → Found
-firstOf [] = Nothing
-firstOf (e ∷ es) = At e
+abbrev pub first_of : List ℕ → Found
+first_of [] = Nothing
+first_of (e ∷ es) = At e
 
 -- the first LF of s at or after `from`
-unfoldable pub lineFrom : List ℕ → ℕ → Found
-lineFrom s from = firstOf (lineEnds from (drop from s))
+unfoldable pub line_from : List ℕ → ℕ → Found
+line_from s from = first_of (line_ends from (drop from s))
 
 -- as many bytes of `src` as `dst` has room for, and behind them what `dst` held there
 unfoldable pub copied : List ℕ → List ℕ → List ℕ
 copied dst src = take (length dst) src ++ drop (length src) dst
 
 -- the bytes of w from `start` up to `fill`, and behind them what w held there
-unfoldable pub movedFront : List ℕ → ℕ → ℕ → List ℕ
-movedFront w start fill = slice start fill w ++ drop (length (slice start fill w)) w
+unfoldable pub moved_front : List ℕ → ℕ → ℕ → List ℕ
+moved_front w start fill = slice start fill w ++ drop (length (slice start fill w)) w

@@ -1,20 +1,22 @@
 // Leaves of the reader: the line search, `trim_cr`, the copy of bytes into lent memory, the move of kept bytes to a slice's front.
 // Each is total: it takes any bytes and any numbers.
-ghost use mathlib.Core.Path.{_≡_};
-ghost use Prim.Native.Nat.{min};
-ghost use denote.Ref.{ptr};
-ghost use Rattle·reading.specs.Bytes.{trimCr};
-ghost use Rattle·lines·specs.specs.Lines.{lineFrom, copied, movedFront};
+#![tactic(auto)]
+
+ghost use Rattle.std.specs.Prelude.{◌≡◌, min};
+ghost use Rattle.reading.specs.Bytes.{trim_cr};
+ghost use Rattle.lines.specs.Lines.{line_from, copied, moved_front};
 
 // Where a line end was found.
+#[derive(Clone, Copy)]
 pub enum Found {
     At(usize),
     Nothing,
 }
 
 // The first LF of `s` at or after `from`; a start past the end finds nothing.
+#[tactic(auto, using(crate::proofs::Laws::line_here, crate::proofs::Laws::line_on, crate::proofs::Laws::line_past))]
 pub fn find_line(s: &[u8], from: usize) -> Found
-    ensures { λ r. ⌜ r ≡ lineFrom (now (s .entry)) from ⌝ }
+    ensures { result ≡ line_from s.now from }
 {
     let mut i = from;
     while i < s.len() {
@@ -27,9 +29,10 @@ pub fn find_line(s: &[u8], from: usize) -> Found
 }
 
 // `s` without one final carriage return, if it has one: the same place.
+#[tactic(auto, using(crate::proofs::Laws::trim_none, crate::proofs::Laws::trim_cr_lem, crate::proofs::Laws::trim_whole))]
 pub fn trim_cr(s: &[u8]) -> &[u8]
-    ensures bytes { λ r. ⌜ now r ≡ trimCr (now (s .entry)) ⌝ }
-    ensures place { λ r. ⌜ ptr r ≡ ptr (s .entry) ⌝ }
+    ensures bytes { result.now ≡ trim_cr s.now }
+    ensures place { result.ref_ptr ≡ s.entry.ref_ptr }
 {
     let n = s.len();
     if n == 0 {
@@ -41,14 +44,14 @@ pub fn trim_cr(s: &[u8]) -> &[u8]
 
 // The smaller of two numbers.
 pub fn least(a: usize, b: usize) -> usize
-    ensures { λ r. ⌜ r ≡ min a b ⌝ }
+    ensures { result ≡ min a b }
 {
     if a <= b { a } else { b }
 }
 
 // Copies `src` over the front of `dst`, as much of it as `dst` has room for; the rest of `dst` stays.
 pub fn copy_into(dst: &mut [u8], src: &[u8])
-    ensures { λ _. ⌜ now (dst .exit) ≡ copied (now (dst .entry)) (now (src .entry)) ⌝ }
+    ensures { dst.new ≡ copied dst.old src.now }
 {
     let n = least(dst.len(), src.len());
     let mut i = 0;
@@ -60,7 +63,7 @@ pub fn copy_into(dst: &mut [u8], src: &[u8])
 
 // Moves the bytes from `start` up to `fill` to the front of `window`; behind them stays what was there.
 pub fn move_front(window: &mut [u8], start: usize, fill: usize)
-    ensures { λ _. ⌜ now (window .exit) ≡ movedFront (now (window .entry)) start fill ⌝ }
+    ensures { window.new ≡ moved_front window.old start fill }
 {
     let end = least(fill, window.len());
     let mut i = 0;

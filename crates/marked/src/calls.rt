@@ -1,90 +1,81 @@
 // One call of a reader each, told in a line; a refused one with whether state and window are as before.
-use crate::compare;
-use crate::telling;
-use reader::Answer;
-use reader::Byte;
-use reader::Ending;
-use reader::Line;
-use reader::Opened;
-use reader::Place;
-use reader::Position;
-use reader::Reader;
-use reader::Taken;
+use crate::{compare, telling};
+use reader::{Answer, Byte, Ending, Line, Opened, Place, Position, Reader, Taken};
 
-fn verdict(number: u8, same: bool) {
-    telling::value(b": refused ", number as u64);
+fn verdict(rt: &impl Print, number: u8, same: bool) {
+    telling::value(rt, b": refused ", number as u64);
     if same {
-        telling::text(b", unchanged\n");
+        telling::text(rt, b", unchanged\n");
     } else {
-        telling::text(b", CHANGED\n");
+        telling::text(rt, b", CHANGED\n");
     }
 }
 
-pub fn open(size: usize) {
-    telling::value(b"  open ", size as u64);
+pub fn open(rt: &impl Print, size: usize) {
+    telling::value(rt, b"  open ", size as u64);
     let opened = Reader::open(size);
     match opened {
-        Opened::Fresh(state) => fresh(state),
-        Opened::Refused(n) => telling::value(b": refused ", n as u64),
+        Opened::Fresh(state) => fresh(rt, state),
+        Opened::Refused(n) => telling::value(rt, b": refused ", n as u64),
     }
-    telling::text(b"\n");
+    telling::text(rt, b"\n");
 }
 
-fn fresh(state: Reader) {
-    telling::value(b": a window of ", state.window as u64);
+fn fresh(rt: &impl Print, state: Reader) {
+    telling::value(rt, b": a window of ", state.window as u64);
 }
 
-pub fn feed(state: Reader, window: &mut [u8], chunk: &[u8]) -> Reader {
+pub fn feed(rt: &impl Print, state: Reader, window: &mut [u8], chunk: &[u8]) -> Reader {
     let before = compare::kept(window);
     let f = state.feed(window, chunk);
     let after = f.state;
     let answer = f.answer;
     let same = compare::unchanged(state, after, &before, window);
-    telling::value(b"  feed ", chunk.len() as u64);
+    telling::value(rt, b"  feed ", chunk.len() as u64);
     match answer {
-        Taken::Took(t) => took(t),
-        Taken::Refused(n) => verdict(n, same),
+        Taken::Took(t) => took(rt, t),
+        Taken::Refused(n) => verdict(rt, n, same),
     }
     after
 }
 
-fn took(t: usize) {
-    telling::value(b": took ", t as u64);
-    telling::text(b"\n");
+fn took(rt: &impl Print, t: usize) {
+    telling::value(rt, b": took ", t as u64);
+    telling::text(rt, b"\n");
 }
 
-pub fn finish(state: Reader, window: &[u8]) -> Reader {
+pub fn finish(rt: &impl Print, state: Reader, window: &[u8]) -> Reader {
     let before = compare::kept(window);
     let f = state.finish(window);
     let after = f.state;
     let answer = f.answer;
     let same = compare::unchanged(state, after, &before, window);
-    telling::text(b"  finish");
+    telling::text(rt, b"  finish");
     match answer {
-        Ending::Noted => telling::text(b": noted\n"),
-        Ending::Refused(n) => verdict(n, same),
+        Ending::Noted => telling::text(rt, b": noted\n"),
+        Ending::Refused(n) => verdict(rt, n, same),
     }
     after
 }
 
-pub fn next(state: Reader, window: &[u8]) -> Reader {
+pub fn next(rt: &impl Print, state: Reader, window: &[u8]) -> Reader {
     let before = compare::kept(window);
     let n = state.next(window);
     let after = n.state;
     let answer = n.answer;
     let same = compare::unchanged(state, after, &before, window);
-    telling::text(b"  next");
+    telling::text(rt, b"  next");
     if let Answer::Refused(number) = answer {
-        verdict(number, same);
+        verdict(rt, number, same);
     } else {
-        telling::text(b": ");
-        telling::tell(answer, telling::front_of(after), window);
-        telling::position(after);
+        telling::text(rt, b": ");
+        telling::tell(rt, answer, telling::front_of(after), window);
+        telling::position(rt, after);
     }
     after
 }
 
-pub fn seek(state: Reader, window: &[u8], line: u64, byte: u64) -> Reader {
+pub fn seek(rt: &impl Print, state: Reader, window: &[u8], line: u64, byte: u64) -> Reader {
     let before = compare::kept(window);
     let m = state.seek(
         window,
@@ -96,17 +87,17 @@ pub fn seek(state: Reader, window: &[u8], line: u64, byte: u64) -> Reader {
     let after = m.state;
     let answer = m.answer;
     let same = compare::unchanged(state, after, &before, window);
-    telling::value(b"  seek ", line);
-    telling::value(b" ", byte);
+    telling::value(rt, b"  seek ", line);
+    telling::value(rt, b" ", byte);
     match answer {
-        Place::Inside => telling::text(b": inside\n"),
-        Place::FeedFrom(b) => feed_from(b),
-        Place::Refused(n) => verdict(n, same),
+        Place::Inside => telling::text(rt, b": inside\n"),
+        Place::FeedFrom(b) => feed_from(rt, b),
+        Place::Refused(n) => verdict(rt, n, same),
     }
     after
 }
 
-fn feed_from(byte: Byte) {
-    telling::value(b": feed from ", byte.0);
-    telling::text(b"\n");
+fn feed_from(rt: &impl Print, byte: Byte) {
+    telling::value(rt, b": feed from ", byte.0);
+    telling::text(rt, b"\n");
 }

@@ -3,6 +3,7 @@ use reader::Reader;
 use record::Noted;
 
 // The noted line ends, as numbers.
+#[derive(Clone, Copy)]
 struct Notes {
     count: u8,
     head: usize,
@@ -73,5 +74,5 @@ pub fn unchanged(a: Reader, b: Reader, before: &[u8; 64], window: &[u8]) -> bool
 }
 
 fn same_copies(a: &[u8; 64], b: &[u8; 64]) -> bool {
-    check::same(a, b)
+    a == b
 }

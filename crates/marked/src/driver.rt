@@ -1,12 +1,11 @@
 // Drives a reader over an input that comes in chunks, and tells each answer that is no request.
+ghost use Rattle.std.specs.Prelude.{◌≤◌};
+
 use crate::telling;
-use reader::Answer;
-use reader::Opened;
-use reader::Reader;
-use reader::Taken;
-ghost use Prim.Native.Nat.{_≤_};
+use reader::{Answer, Opened, Reader, Taken};
 
 // What a run has come to.
+#[derive(Clone, Copy)]
 struct Run {
     reader: Reader,
     taken: usize, // how much of the input the reader took
@@ -18,44 +17,56 @@ struct Run {
 const TURNS: u32 = 64;
 
 // An example in chunks of 1, 2, 3 and 64 bytes, on one window: the bytes that a run leaves there must not matter to the next.
-pub fn example(name: &[u8], size: usize, input: &[u8])
-    requires { ⌜ size ≤ 64 ⌝ }
+pub fn example(rt: &impl Print, name: &[u8], size: usize, input: &[u8])
+    requires { size ≤ 64 }
 {
     let mut bytes = [0u8; 64];
     let window = &mut bytes[0..size];
-    open(name, 1, input, window);
-    open(name, 2, input, window);
-    open(name, 3, input, window);
-    open(name, 64, input, window);
+    open(rt, name, 1, input, window);
+    open(rt, name, 2, input, window);
+    open(rt, name, 3, input, window);
+    open(rt, name, 64, input, window);
 }
 
-fn open(name: &[u8], chunk: usize, input: &[u8], window: &mut [u8]) {
+fn open(rt: &impl Print, name: &[u8], chunk: usize, input: &[u8], window: &mut [u8]) {
     let Opened::Fresh(reader) = Reader::open(window.len()) else {
         return;
     };
-    drive(name, chunk, input, window, reader);
+    drive(rt, name, chunk, input, window, reader);
 }
 
-fn drive(name: &[u8], chunk: usize, input: &[u8], window: &mut [u8], reader: Reader) {
+fn drive(
+    rt: &impl Print,
+    name: &[u8],
+    chunk: usize,
+    input: &[u8],
+    window: &mut [u8],
+    reader: Reader,
+) {
     let mut run = Run {
         reader,
         taken: 0,
         closed: false,
         over: false,
     };
-    let mut turns = 0;
-    while turns < TURNS {
+    for _ in 0..TURNS {
         if run.over {
             return;
         }
-        run = turn(run, name, chunk, input, window);
-        turns += 1;
+        run = turn(rt, run, name, chunk, input, window);
     }
-    telling::text(name);
-    telling::text(b" has no closing answer\n");
+    telling::text(rt, name);
+    telling::text(rt, b" has no closing answer\n");
 }
 
-fn turn(run: Run, name: &[u8], chunk: usize, input: &[u8], window: &mut [u8]) -> Run {
+fn turn(
+    rt: &impl Print,
+    run: Run,
+    name: &[u8],
+    chunk: usize,
+    input: &[u8],
+    window: &mut [u8],
+) -> Run {
     let reader = run.reader;
     let n = reader.next(window);
     let answer = n.answer;
@@ -63,9 +74,9 @@ fn turn(run: Run, name: &[u8], chunk: usize, input: &[u8], window: &mut [u8]) ->
     if is_request(answer) {
         return bring(run, state, chunk, input, window);
     }
-    title(name, window.len(), chunk);
-    telling::tell(answer, telling::front_of(state), window);
-    telling::position(state);
+    title(rt, name, window.len(), chunk);
+    telling::tell(rt, answer, telling::front_of(state), window);
+    telling::position(rt, state);
     Run {
         reader: state,
         taken: run.taken,
@@ -74,11 +85,11 @@ fn turn(run: Run, name: &[u8], chunk: usize, input: &[u8], window: &mut [u8]) ->
     }
 }
 
-fn title(name: &[u8], size: usize, chunk: usize) {
-    telling::text(name);
-    telling::value(b" ", size as u64);
-    telling::value(b" chunks of ", chunk as u64);
-    telling::text(b": ");
+fn title(rt: &impl Print, name: &[u8], size: usize, chunk: usize) {
+    telling::text(rt, name);
+    telling::value(rt, b" ", size as u64);
+    telling::value(rt, b" chunks of ", chunk as u64);
+    telling::text(rt, b": ");
 }
 
 fn is_request(answer: Answer) -> bool {

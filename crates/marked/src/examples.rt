@@ -1,43 +1,43 @@
 // The marked examples of document 01, and one whose offsets in the input are not its places in the window.
 use crate::driver;
 
-pub fn run() {
-    tails();
-    lines();
-    windows();
-    moved();
+pub fn run(rt: &impl Print) {
+    tails(rt);
+    lines(rt);
+    windows(rt);
+    moved(rt);
 }
 
 // Nothing, a record, and what may follow it.
-fn tails() {
-    driver::example(b"M1", 64, b"");
-    driver::example(b"M2", 64, b"@a\nAC\n+\nII\n");
-    driver::example(b"M3", 64, b"@a\nAC\n+\nII");
-    driver::example(b"M4", 64, b"@a\nAC\n+\nII\n\n\n");
-    driver::example(b"M5", 64, b"@a\nAC\n+\nII\n\n\n\n");
+fn tails(rt: &impl Print) {
+    driver::example(rt, b"M1", 64, b"");
+    driver::example(rt, b"M2", 64, b"@a\nAC\n+\nII\n");
+    driver::example(rt, b"M3", 64, b"@a\nAC\n+\nII");
+    driver::example(rt, b"M4", 64, b"@a\nAC\n+\nII\n\n\n");
+    driver::example(rt, b"M5", 64, b"@a\nAC\n+\nII\n\n\n\n");
 }
 
 // A record's lines.
-fn lines() {
-    driver::example(b"M6", 64, b"@a\r\nAC\r\n+\r\nII");
-    driver::example(b"M7", 64, b"@a\nAC\r\n+\nIII\n");
-    driver::example(b"M8", 64, b"@a\nAC\n-\nII\n");
-    driver::example(b"M9", 64, b"xa\nAC\n");
-    driver::example(b"M10", 64, b"@\n\n+\n");
-    driver::example(b"M11", 64, b"\n\nx");
+fn lines(rt: &impl Print) {
+    driver::example(rt, b"M6", 64, b"@a\r\nAC\r\n+\r\nII");
+    driver::example(rt, b"M7", 64, b"@a\nAC\r\n+\nIII\n");
+    driver::example(rt, b"M8", 64, b"@a\nAC\n-\nII\n");
+    driver::example(rt, b"M9", 64, b"xa\nAC\n");
+    driver::example(rt, b"M10", 64, b"@\n\n+\n");
+    driver::example(rt, b"M11", 64, b"\n\nx");
 }
 
 // The least window that serves, and one byte less.
-fn windows() {
-    driver::example(b"M12", 11, b"@a\nAC\n+\nII\n");
-    driver::example(b"M12", 10, b"@a\nAC\n+\nII\n");
-    driver::example(b"M13", 11, b"@a\nAC\n+\nII");
-    driver::example(b"M13", 10, b"@a\nAC\n+\nII");
-    driver::example(b"M14", 5, b"\r\n\r\n");
-    driver::example(b"M14", 4, b"\r\n\r\n");
+fn windows(rt: &impl Print) {
+    driver::example(rt, b"M12", 11, b"@a\nAC\n+\nII\n");
+    driver::example(rt, b"M12", 10, b"@a\nAC\n+\nII\n");
+    driver::example(rt, b"M13", 11, b"@a\nAC\n+\nII");
+    driver::example(rt, b"M13", 10, b"@a\nAC\n+\nII");
+    driver::example(rt, b"M14", 5, b"\r\n\r\n");
+    driver::example(rt, b"M14", 4, b"\r\n\r\n");
 }
 
 // M2 and M8 in a window that does not hold both, so that kept bytes move to its front.
-fn moved() {
-    driver::example(b"M2 M8", 12, b"@a\nAC\n+\nII\n@a\nAC\n-\nII\n");
+fn moved(rt: &impl Print) {
+    driver::example(rt, b"M2 M8", 12, b"@a\nAC\n+\nII\n@a\nAC\n-\nII\n");
 }

@@ -1,4 +1,6 @@
 // Runs the reader's calls on the marked examples of document 01, each in chunks of several sizes, and on refusals 1 to 5 at their edges.
+#![tactic(auto)]
+
 mod calls;
 mod compare;
 mod driver;
@@ -6,7 +8,7 @@ mod examples;
 mod refusals;
 mod telling;
 
-fn main() {
-    examples::run();
-    refusals::run();
+fn main(rt: HostRuntime) {
+    examples::run(&rt);
+    refusals::run(&rt);
 }

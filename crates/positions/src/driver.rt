@@ -1,12 +1,11 @@
 // Drives a reader over standard input: brings it the input that it asks for, and hands the lines of its other answers to the output.
-use crate::input;
-use crate::output;
+use crate::{failure, input, output};
 use lines::least;
-use reader::Answer;
-use reader::Opened;
-use reader::Reader;
+use reader::{Answer, Opened, Reader};
+use std::io::Read;
 
 // What a run has come to.
+#[derive(Clone, Copy)]
 struct Run {
     reader: Reader,
     from: usize, // the chunk's bytes from here
@@ -27,7 +26,7 @@ fn with_no_chunk(reader: Reader, gathered: usize, over: bool) -> Run {
 }
 
 // Reads with a window of `size` bytes and chunks of at most `most`, each 65,536 at most.
-pub fn read_all(size: usize, most: usize) {
+pub fn read_all(rt: &(impl Print + Eprint), stdin: &mut impl Read, size: usize, most: usize) {
     let mut bytes = [0u8; 65536];
     let mut input = [0u8; 65536];
     let mut output = [0u8; 65536];
@@ -36,37 +35,60 @@ pub fn read_all(size: usize, most: usize) {
     let Opened::Fresh(reader) = Reader::open(w) else {
         return;
     };
-    drive(reader, &mut bytes[0..w], &mut input[0..n], &mut output);
+    drive(
+        rt,
+        stdin,
+        reader,
+        &mut bytes[0..w],
+        &mut input[0..n],
+        &mut output,
+    );
 }
 
-// A proved loop has to end, and nothing says that the input does. So the loop counts its turns down, from a number that no run uses up.
-fn drive(reader: Reader, window: &mut [u8], chunk: &mut [u8], out: &mut [u8]) {
+// A proved loop has to end, and nothing says that the input does. So the loop counts its turns, up to a number that no run reaches.
+fn drive(
+    rt: &(impl Print + Eprint),
+    stdin: &mut impl Read,
+    reader: Reader,
+    window: &mut [u8],
+    chunk: &mut [u8],
+    out: &mut [u8],
+) {
     let mut run = with_no_chunk(reader, 0, false);
-    let mut turns = u64::MAX;
-    while 0 < turns {
+    for _ in 0..u64::MAX {
         if run.over {
             return;
         }
-        run = turn(run, window, chunk, out);
-        turns -= 1;
+        run = turn(rt, stdin, run, window, chunk, out);
     }
 }
 
 // One answer: the input that it asks for, or its line.
-fn turn(run: Run, window: &mut [u8], chunk: &mut [u8], out: &mut [u8]) -> Run {
+fn turn(
+    rt: &(impl Print + Eprint),
+    stdin: &mut impl Read,
+    run: Run,
+    window: &mut [u8],
+    chunk: &mut [u8],
+    out: &mut [u8],
+) -> Run {
     let reader = run.reader;
     let next = reader.next(window);
     let state = next.state;
     let answer = next.answer;
     if is_request(answer) {
-        return bring(state, run.from, run.to, run.gathered, window, chunk, out);
+        let asking = Run {
+            reader: state,
+            ..run
+        };
+        return bring(rt, stdin, asking, window, chunk, out);
     }
     let written = answers::put_answer(out, run.gathered, next);
     let gathered = output::behind(run.gathered, written);
     if closes(answer) {
-        return close(state, gathered, out);
+        return close(rt, state, gathered, out);
     }
-    let kept = output::settle(out, gathered);
+    let kept = output::settle(rt, out, gathered);
     Run {
         reader: state,
         from: run.from,
@@ -94,28 +116,31 @@ fn closes(answer: Answer) -> bool {
 }
 
 // Behind the closing answer stands the position, and all is written.
-fn close(state: Reader, gathered: usize, out: &mut [u8]) -> Run {
+fn close(rt: &(impl Print + Eprint), state: Reader, gathered: usize, out: &mut [u8]) -> Run {
     let written = answers::put_position(out, gathered, state);
-    output::flush(out, output::behind(gathered, written));
+    output::flush(rt, out, output::behind(gathered, written));
     with_no_chunk(state, 0, true)
 }
 
 // Feeds what is left of the chunk, or what a read brings, and notes the end where that is nothing. A read that fails ends the run.
 fn bring(
-    state: Reader,
-    from: usize,
-    to: usize,
-    gathered: usize,
+    rt: &(impl Print + Eprint),
+    stdin: &mut impl Read,
+    run: Run,
     window: &mut [u8],
     chunk: &mut [u8],
     out: &[u8],
 ) -> Run {
-    let left = input::fetch(from, to, chunk);
-    if left.failed {
-        output::flush(out, gathered);
-        os::fail(b"positions: standard input");
-        return with_no_chunk(state, 0, true);
-    }
+    let state = run.reader;
+    let gathered = run.gathered;
+    let left = match input::fetch(stdin, run.from, run.to, chunk) {
+        Ok(left) => left,
+        Err(error) => {
+            output::flush(rt, out, gathered);
+            failure::tell(rt, "positions: standard input", error);
+            return with_no_chunk(state, 0, true);
+        }
+    };
     let bytes = output::part(chunk, left.from, left.to);
     if bytes.len() == 0 {
         let f = state.finish(window);
@@ -125,7 +150,7 @@ fn bring(
     let f = state.feed(window, bytes);
     let reader = f.state;
     let answer = f.answer;
-    let took = input::taken(answer, out, gathered);
+    let took = input::taken(rt, answer, out, gathered);
     Run {
         reader,
         from: std::num::wrapping_add_usize(left.from, took.count),

@@ -1,5 +1,5 @@
 // Standard output, gathered and written in blocks.
-use libc::STDOUT_FILENO;
+use crate::failure;
 use record::less;
 use writer::Written;
 
@@ -7,6 +7,7 @@ use writer::Written;
 const LINE: usize = 256;
 
 // How many bytes of output wait to be written.
+#[derive(Clone, Copy)]
 pub struct Gathered {
     pub count: usize,
     pub failed: bool, // a write failed
@@ -21,7 +22,7 @@ pub fn behind(at: usize, written: Written) -> usize {
 }
 
 // Writes all that is gathered where little room is left.
-pub fn settle(out: &[u8], gathered: usize) -> Gathered {
+pub fn settle(rt: &(impl Print + Eprint), out: &[u8], gathered: usize) -> Gathered {
     if LINE <= less(out.len(), gathered) {
         return Gathered {
             count: gathered,
@@ -30,17 +31,19 @@ pub fn settle(out: &[u8], gathered: usize) -> Gathered {
     }
     Gathered {
         count: 0,
-        failed: !flush(out, gathered),
+        failed: !flush(rt, out, gathered),
     }
 }
 
 // Writes what is gathered. A write that fails is told on standard error, and answered by false.
-pub fn flush(out: &[u8], gathered: usize) -> bool {
-    let is_written = io::write_all(STDOUT_FILENO, part(out, 0, gathered));
-    if !is_written {
-        os::fail(b"positions: standard output");
+pub fn flush(rt: &(impl Print + Eprint), out: &[u8], gathered: usize) -> bool {
+    match rt.write_all(part(out, 0, gathered)) {
+        Ok(()) => true,
+        Err(error) => {
+            failure::tell(rt, "positions: standard output", error);
+            false
+        }
     }
-    is_written
 }
 
 // The bytes of s from a place up to another; none where these are no such places.

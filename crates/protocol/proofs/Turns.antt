@@ -1,100 +1,100 @@
 -- The protocol's turns: each ends with a record counted, with a request answered, or with the closing answer.
 -- Assumes nothing.
-use Prim.Native.Nat.{ℕ, suc, _+_, _-_, _≤_, _<_}
+use Prim.Native.Nat.{ℕ, suc, ◌+◌, ◌-◌, ◌≤◌, ◌<◌}
 use native.Mathlib.Omega.{arith}
 use native.Mathlib.Nat.{add-zero, zero-add}
-use mathlib.Core.Path.{_≡_, refl, sym, ap, _∙_, subst}
+use mathlib.Core.Path.{◌≡◌, refl, sym, ap, ◌∙◌, subst}
 use mathlib.Core.Bool.{Bool, true, false}
-use mathlib.Core.Logic.{_⊎_, inl, inr}
+use mathlib.Core.Logic.{◌⊎◌, inl, inr}
 use mathlib.Core.Option.{some}
-use mathlib.Core.List.{List, [], _∷_}
+use mathlib.Core.List.{List, [], ◌∷◌}
 use lib.ListN.{length, drop, length-take, length-drop}
 use lib.Dec.{leb}
 use borrow.Author.Tests.{leb-true, leb-false}
-use Rattle·reading.specs.Answer.{Told}
-use Rattle·reading.specs.Answer as read
-use Rattle·reading.specs.Reading.{reading}
-use Rattle·reading.specs.Lists.{isFound}
-use Rattle·reader.specs.declared.Reader.{Reader}
-use Rattle·reader.specs.declared.Answer.{Answer}
-use Rattle·reader.specs.declared.Answer.the-variants.{Record, More, WindowLimit, InvalidStart, InvalidSeparator, UnequalLengths, UnexpectedEnd, End, Refused}
-use Rattle·reader.specs.State.{mostBytes, freshOf}
-use Rattle·reader.specs.Feed.{feedOf, fedWindow}
-use Rattle·reader.specs.Next.{nextOf}
-use Rattle·reader.specs.Seek.{base}
-use Rattle·reader.proofs.Refusals.{next-refused}
-use Rattle·demands.specs.Runs.{heardOf, placed, tookOf, Bench}
-use Rattle·demands.proofs.Standing.{Good, good-owned, due, fresh-good}
-use Rattle·demands.proofs.Nexts.{Gives, Served, next-served}
-use Rattle·demands.proofs.Feeds.{Kept, finish-kept, feed-kept, took-some}
-use Rattle·demands.proofs.Chunks.{front-of}
-use Rattle·demands.proofs.Early.{next-ended}
-use Rattle·demands.proofs.Lively.{wants, takes, finish-accepted}
-use Rattle·protocol·specs.specs.declared.Kind.{Kind}
-use Rattle·protocol·specs.specs.declared.Kind.the-variants as kind
-use Rattle·protocol·specs.specs.declared.Supplied.{Supplied}
-use Rattle·protocol·specs.specs.Tallies.{Tallied, tallyOf}
-use Rattle·protocol·specs.specs.Turns.{kindOf, offered, suppliedBy, suppliedOf, suppliedWindowBy, suppliedWindow}
-use Rattle·protocol·specs.specs.Outcome.{talliedOf}
-use Rattle·protocol·proofs.proofs.Supplies.{offered-next}
-use Rattle·protocol·proofs.proofs.Tallies.{plus, plus-one, tally-record, tally-closing, records-few, tally-first}
+use Rattle.reading.specs.Answer.{Told}
+use Rattle.reading.specs.Answer as read
+use Rattle.reading.specs.Reading.{reading}
+use Rattle.reading.specs.Lists.{is_found}
+use Rattle.reader.specs.declared.Reader.{Reader}
+use Rattle.reader.specs.declared.Answer.{Answer}
+use Rattle.reader.specs.declared.Answer.TheVariants.{Record, More, WindowLimit, InvalidStart, InvalidSeparator, UnequalLengths, UnexpectedEnd, End, Refused}
+use Rattle.reader.specs.State.{most_bytes, fresh_of}
+use Rattle.reader.specs.Feed.{feed_of, fed_window}
+use Rattle.reader.specs.Next.{next_of}
+use Rattle.reader.specs.Seek.{base}
+use Rattle.reader.proofs.Refusals.{next_refused}
+use Rattle.demands.specs.Runs.{heard_of, placed, took_of, Bench}
+use Rattle.demands.proofs.Standing.{Good, good_owned, due, fresh_good}
+use Rattle.demands.proofs.Nexts.{Gives, Served, next_served}
+use Rattle.demands.proofs.Feeds.{Kept, finish_kept, feed_kept, took_some}
+use Rattle.demands.proofs.Chunks.{front_of_lem}
+use Rattle.demands.proofs.Early.{next_ended}
+use Rattle.demands.proofs.Lively.{wants, takes, finish_accepted}
+use Rattle.protocol.specs.declared.Kind.{Kind}
+use Rattle.protocol.specs.declared.Kind.TheVariants as kind
+use Rattle.protocol.specs.declared.Supplied.{Supplied}
+use Rattle.protocol.specs.Tallies.{Tallied, tally_of}
+use Rattle.protocol.specs.Turns.{kind_of, offered, supplied_by, supplied_of, supplied_window_by, supplied_window}
+use Rattle.protocol.specs.Outcome.{tallied_of}
+use Rattle.protocol.proofs.Supplies.{offered_next}
+use Rattle.protocol.proofs.Tallies.{plus, plus_one, tally_record, tally_closing, records_few, tally_first}
 
 -- ---- what an answer is heard as
 
 -- of each kind: a record, a request, or an answer that closes, if it is no refusal; k is the absolute offset of the window's first byte
 abbrev HeardAs : ℕ → Answer → Kind → Type 0
-HeardAs k a kind.Record = (x : read.Answer) × (heardOf k a ≡ some x) × (isFound x ≡ true)
+HeardAs k a kind.Record = (x : read.Answer) × (heard_of k a ≡ some x) × (is_found x ≡ true)
 HeardAs k a kind.Request = a ≡ More
-HeardAs k a kind.Closing = ((n : ℕ) × (a ≡ Refused n)) ⊎ ((x : read.Answer) × (heardOf k a ≡ some x) × (isFound x ≡ false))
+HeardAs k a kind.Closing = ((n : ℕ) × (a ≡ Refused n)) ⊎ ((x : read.Answer) × (heard_of k a ≡ some x) × (is_found x ≡ false))
 
-heard-as : (k : ℕ) (a : Answer) → HeardAs k a (kindOf a)
-heard-as k (Record r b) = (_, refl, refl)
-heard-as k More = refl
-heard-as k (WindowLimit L b) = inr (_, refl, refl)
-heard-as k (InvalidStart x L) = inr (_, refl, refl)
-heard-as k (InvalidSeparator x L i) = inr (_, refl, refl)
-heard-as k (UnequalLengths n m L i) = inr (_, refl, refl)
-heard-as k (UnexpectedEnd L i) = inr (_, refl, refl)
-heard-as k End = inr (_, refl, refl)
-heard-as k (Refused n) = inl (n, refl)
+heard_as : (k : ℕ) (a : Answer) → HeardAs k a (kind_of a)
+heard_as k (Record r b) = (_, refl, refl)
+heard_as k More = refl
+heard_as k (WindowLimit L b) = inr (_, refl, refl)
+heard_as k (InvalidStart x L) = inr (_, refl, refl)
+heard_as k (InvalidSeparator x L i) = inr (_, refl, refl)
+heard_as k (UnequalLengths n m L i) = inr (_, refl, refl)
+heard_as k (UnexpectedEnd L i) = inr (_, refl, refl)
+heard_as k End = inr (_, refl, refl)
+heard_as k (Refused n) = inl (n, refl)
 
 -- ---- between two turns
 
 -- the end is still to be noted
-abbrev pub toNote : Bool → ℕ
-toNote true = 0
-toNote false = 1
+abbrev pub to_note : Bool → ℕ
+to_note true = 0
+to_note false = 1
 
 -- what is left to do: records to count, bytes to take, and the end to note
-unfoldable pub leftOf : List ℕ → Reader → ℕ → ℕ → ℕ
-leftOf B s at k = length B - k + (length B - at) + toNote (s .ended)
+unfoldable pub left_of : List ℕ → Reader → ℕ → ℕ → ℕ
+left_of B s at k = length B - k + (length B - at) + to_note s.ended
 
 -- k records are counted, and `at` bytes of B taken: these records and those that are due make up the tally T
 pub record Going (B : List ℕ) (T : Tallied) (s : Reader) (w : List ℕ) (at k : ℕ) : Type 0 where
   pub good : Good B s w at
   pub within : at ≤ length B
-  pub few : T .records ≤ length B
-  pub tallies : (n : ℕ) → length B < k + n → plus k (tallyOf (due n B s)) ≡ T
+  pub few : T.records ≤ length B
+  pub tallies : (n : ℕ) → length B < k + n → plus k (tally_of (due n B s)) ≡ T
 
 -- a fresh reader is due the whole reading
-pub fresh-going : (B w : List ℕ) (s : Reader) → s ≡ freshOf (length w) → Going B (tallyOf (reading B (length w) 0 1)) s w 0 0
-fresh-going B w s e =
+pub fresh_going : (B w : List ℕ) (s : Reader) → s ≡ fresh_of (length w) → Going B (tally_of (reading B (length w) 0 1)) s w 0 0
+fresh_going B w s e =
     rw e
     (record {
-      good = fresh-good B w (length w) refl;
+      good = fresh_good B w (length w) refl;
       within = omega arith;
-      few = records-few B (length w);
-      tallies = λ n h. rw zero-add (tally-first n B (length w) (omega arith));
+      few = records_few B (length w);
+      tallies = λ n h. rw zero-add (tally_first n B (length w) (omega arith));
     })
 
 -- no more records are counted than there are bytes
-pub going-few : (B : List ℕ) (T : Tallied) (s : Reader) (w : List ℕ) (at k : ℕ) → Going B T s w at k → k ≤ length B
-going-few B T s w at k g =
-    omega (arith, g .few, ap (λ (r : Tallied). r .records) (g .tallies (suc (length B)) (omega arith)))
+pub going_few : (B : List ℕ) (T : Tallied) (s : Reader) (w : List ℕ) (at k : ℕ) → Going B T s w at k → k ≤ length B
+going_few B T s w at k g =
+    omega (arith, g.few, ap (λ (r : Tallied). r.records) (g.tallies (suc (length B)) (omega arith)))
 
-note-most : (e : Bool) → toNote e ≤ 1
-note-most true = omega arith
-note-most false = omega arith
+note_most : (e : Bool) → to_note e ≤ 1
+note_most true = omega arith
+note_most false = omega arith
 
 -- (over plain numbers)
 falls : (a b at t e f : ℕ) → at < b → 0 < t → e ≤ 1 → f ≡ 1 → a + (b - (at + t)) + e < a + (b - at) + f
@@ -102,109 +102,109 @@ falls a b at t e f h k l m = omega arith
 
 module _ (B : List ℕ) (T : Tallied) (s : Reader) (w : List ℕ) (at k : ℕ) (g : Going B T s w at k) where
   -- the state after next
-  abbrev s′ : Reader
-  s′ = nextOf s w .state
+  abbrev s' : Reader
+  s' = (next_of s w).state
 
-  served : Served B s w at (nextOf s w)
-  served = next-served B s w at (g .good)
+  served : Served B s w at (next_of s w)
+  served = next_served B s w at g.good
 
-  heard : (x : Kind) → kindOf (nextOf s w .answer) ≡ x → HeardAs (base s′) (nextOf s w .answer) x
-  heard x e = subst (HeardAs (base s′) (nextOf s w .answer)) e (heard-as (base s′) (nextOf s w .answer))
+  heard : (x : Kind) → kind_of (next_of s w).answer ≡ x → HeardAs (base s') (next_of s w).answer x
+  heard x e = subst (HeardAs (base s') (next_of s w).answer) e (heard_as (base s') (next_of s w).answer)
 
   -- an answer that is heard is the first that was due
-  first-due : (n : ℕ) (x : read.Answer) → heardOf (base s′) (nextOf s w .answer) ≡ some x → due (suc n) B s ≡ placed s′ x ∷ due n B s′
-  first-due n x e = subst (Gives n B s s′) e (served .gives n)
+  first_due : (n : ℕ) (x : read.Answer) → heard_of (base s') (next_of s w).answer ≡ some x → due (suc n) B s ≡ placed s' x ∷ due n B s'
+  first_due n x e = subst (Gives n B s s') e (served.gives n)
 
   -- A RECORD: it is counted
-  pub counts : kindOf (nextOf s w .answer) ≡ kind.Record → Going B T s′ w at (k + 1)
+  pub counts : kind_of (next_of s w).answer ≡ kind.Record → Going B T s' w at (k + 1)
   counts e =
       let (x, h, f) = heard kind.Record e in
       record {
-        good = served .good;
-        within = g .within;
-        few = g .few;
+        good = served.good;
+        within = g.within;
+        few = g.few;
         tallies = λ n l.
-            plus-one k (tallyOf (due n B s′)) ∙ ap (plus k) (sym (ap tallyOf (first-due n x h) ∙ tally-record (placed s′ x) (due n B s′) f)) ∙ g .tallies (suc n) (omega arith);
+            plus_one k (tally_of (due n B s')) ∙ ap (plus k) (sym (ap tally_of (first_due n x h) ∙ tally_record (placed s' x) (due n B s') f)) ∙ g.tallies (suc n) (omega arith);
       }
 
   -- and less is left to do
-  pub counts-less : kindOf (nextOf s w .answer) ≡ kind.Record → leftOf B s′ at (k + 1) < leftOf B s at k
-  unfolding leftOf
-  counts-less e = let h = going-few B T s′ w at (k + 1) (counts e) in rw (next-ended s w) (omega arith)
+  pub counts_less : kind_of (next_of s w).answer ≡ kind.Record → left_of B s' at (k + 1) < left_of B s at k
+  unfolding left_of
+  counts_less e = let h = going_few B T s' w at (k + 1) (counts e) in rw (next_ended s w) (omega arith)
 
   -- THE CLOSING ANSWER: the tally is complete
-  pub closes : kindOf (nextOf s w .answer) ≡ kind.Closing → talliedOf (record { records = k; closing = nextOf s w .answer; state = s′ }) ≡ T
+  pub closes : kind_of (next_of s w).answer ≡ kind.Closing → tallied_of (record { records = k; closing = (next_of s w).answer; state = s' }) ≡ T
   closes e = go (heard kind.Closing e)
     where
-      go : HeardAs (base s′) (nextOf s w .answer) kind.Closing → talliedOf (record { records = k; closing = nextOf s w .answer; state = s′ }) ≡ T
+      go : HeardAs (base s') (next_of s w).answer kind.Closing → tallied_of (record { records = k; closing = (next_of s w).answer; state = s' }) ≡ T
       go (inl (n, h)) =
-          let o = good-owned B s w at (g .good) in
-          let f = next-refused s w n h .0 in
-          let z : _≡_ {A = ℕ} 0 1 = cc in
+          let o = good_owned B s w at g.good in
+          let f = (next_refused s w n h).0 in
+          let z : ◌≡◌ {A = ℕ} 0 1 = cc in
           absurd (omega arith)
       go (inr (x, h, f)) =
           let n : ℕ = length B in
-          let d : tallyOf (due (suc n) B s) ≡ record { records = 0; closing = some (placed s′ x) } = ap tallyOf (first-due n x h) ∙ tally-closing (placed s′ x) (due n B s′) f in
-          rw h (rw (add-zero k) at (ap (plus k) (sym d)) ∙ g .tallies (suc n) (omega arith))
+          let d : tally_of (due (suc n) B s) ≡ record { records = 0; closing = some (placed s' x) } = ap tally_of (first_due n x h) ∙ tally_closing (placed s' x) (due n B s') f in
+          rw h (rw (add-zero k) at (ap (plus k) (sym d)) ∙ g.tallies (suc n) (omega arith))
 
   -- A REQUEST is answered by bytes or by the end
-  module _ (asks : kindOf (nextOf s w .answer) ≡ kind.Request) (chunk : ℕ) (some′ : 0 < chunk) (small : length B ≤ mostBytes) where
+  module _ (asks : kind_of (next_of s w).answer ≡ kind.Request) (chunk : ℕ) (some' : 0 < chunk) (small : length B ≤ most_bytes) where
     abbrev b : Bench
     b = record { reader = s; window = w; taken = at; heard = [] }
 
-    more : nextOf s w .answer ≡ More
+    more : (next_of s w).answer ≡ More
     more = heard kind.Request asks
 
     -- nothing is heard by it
-    silent : (n : ℕ) → due n B s ≡ due n B s′
-    silent n = subst (Gives n B s s′) (ap (heardOf (base s′)) more) (served .gives n)
+    silent : (n : ℕ) → due n B s ≡ due n B s'
+    silent n = subst (Gives n B s s') (ap (heard_of (base s')) more) (served.gives n)
 
-    open′ : s .ended ≡ false
-    open′ = sym (next-ended s w) ∙ wants B b (g .good) more .goesOn
+    open' : s.ended ≡ false
+    open' = sym (next_ended s w) ∙ (wants B b g.good more).goes_on
 
-    goes : (u : Reader) (w′ : List ℕ) (t : ℕ) → Kept B s′ u w′ t → t ≤ length B → Going B T u w′ t k
-    goes u w′ t q h =
+    goes : (u : Reader) (w' : List ℕ) (t : ℕ) → Kept B s' u w' t → t ≤ length B → Going B T u w' t k
+    goes u w' t q h =
         record {
-          good = q .good;
+          good = q.good;
           within = h;
-          few = g .few;
-          tallies = λ n l. ap (λ (ts : List Told). plus k (tallyOf ts)) (sym (silent n ∙ q .same n)) ∙ g .tallies n l;
+          few = g.few;
+          tallies = λ n l. ap (λ (ts : List Told). plus k (tally_of ts)) (sym (silent n ∙ q.same n)) ∙ g.tallies n l;
         }
 
     abbrev C : List ℕ
     C = offered B at chunk
 
     abbrev t : ℕ
-    t = tookOf (feedOf s′ (length w) (length C) .answer)
+    t = took_of (feed_of s' (length w) (length C)).answer
 
     -- the run goes on, with less left to do
     abbrev pub Answers : Supplied → List ℕ → Type 0
-    Answers u w′ = Going B T (u .state) w′ (u .at) k × (leftOf B (u .state) (u .at) k < leftOf B s at k)
+    Answers u w' = Going B T u.state w' u.at k × (left_of B u.state u.at k < left_of B s at k)
 
     -- all is taken: the end is noted
-    by-end : length B ≤ at → Answers (suppliedBy s′ w B at chunk true) w
-    unfolding leftOf
-    by-end h = (
-      goes _ w at (finish-kept B s′ w at (served .good) h) (g .within),
-      rw (finish-accepted B b (g .good) more, open′) (omega arith),
+    by_end : length B ≤ at → Answers (supplied_by s' w B at chunk true) w
+    unfolding left_of
+    by_end h = (
+      goes _ w at (finish_kept B s' w at served.good h) g.within,
+      rw (finish_accepted B b g.good more, open') (omega arith),
     )
 
     -- otherwise at least one byte is taken
-    by-bytes : at < length B → Answers (suppliedBy s′ w B at chunk false) (fedWindow s′ w C)
-    unfolding leftOf
-    by-bytes h =
-        let f = front-of B C at t (took-some s′ (length w) (length C)) (offered-next B at chunk) in
+    by_bytes : at < length B → Answers (supplied_by s' w B at chunk false) (fed_window s' w C)
+    unfolding left_of
+    by_bytes h =
+        let f = front_of_lem B C at t (took_some s' (length w) (length C)) (offered_next B at chunk) in
         let nonempty : 0 < length C = omega (arith, length-take chunk (drop at B), length-drop at B) in
-        let q = takes B b (g .good) more C nonempty (offered-next B at chunk) small in (
-          goes _ _ (at + t) (feed-kept B s′ w C at (served .good) (f .0) (f .1)) (omega (arith, f .1, length-drop at B)),
-          falls (length B - k) (length B) at t _ _ h q (note-most (feedOf s′ (length w) (length C) .state .ended)) (ap toNote open′),
+        let q = takes B b g.good more C nonempty (offered_next B at chunk) small in (
+          goes _ _ (at + t) (feed_kept B s' w C at served.good f.0 f.1) (omega (arith, f.1, length-drop at B)),
+          falls (length B - k) (length B) at t _ _ h q (note_most (feed_of s' (length w) (length C)).state.ended) (ap to_note open'),
         )
 
     -- the run goes on
-    pub answers : Answers (suppliedOf s′ w B at chunk) (suppliedWindow s′ w B at chunk)
-    unfolding suppliedOf suppliedWindow
+    pub answers : Answers (supplied_of s' w B at chunk) (supplied_window s' w B at chunk)
+    unfolding supplied_of supplied_window
     answers = go (leb (length B) at) refl
       where
-        go : (d : Bool) → leb (length B) at ≡ d → Answers (suppliedBy s′ w B at chunk d) (suppliedWindowBy s′ w B at chunk d)
-        go true h = by-end (leb-true (length B) at h)
-        go false h = by-bytes (leb-false (length B) at h)
+        go : (d : Bool) → leb (length B) at ≡ d → Answers (supplied_by s' w B at chunk d) (supplied_window_by s' w B at chunk d)
+        go true h = by_end (leb-true (length B) at h)
+        go false h = by_bytes (leb-false (length B) at h)

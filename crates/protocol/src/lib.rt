@@ -1,20 +1,19 @@
 // The protocol of a user who reads a whole input: ask, and answer each request by the input's next bytes or, when all are taken, by its end.
 // Takes any input, window and chunk size.
-use reader::Answer;
-use reader::Opened;
-use reader::Reader;
-use reader::Taken;
-ghost use mathlib.Core.Path.{_≡_};
-ghost use Prim.Native.Nat.{_≤_, _<_};
-ghost use lib.ListN.{length};
-ghost use Rattle·reading.specs.Reading.{reading};
-ghost use Rattle·reader.specs.State.{mostBytes, freshOf};
-ghost use Rattle·demands.specs.Runs.{tookOf};
-ghost use Rattle·protocol·specs.specs.Tallies.{tallyOf};
-ghost use Rattle·protocol·specs.specs.Turns.{kindOf, suppliedOf, suppliedWindow, windowAfter};
-ghost use Rattle·protocol·specs.specs.Outcome.{talliedOf, outcomeOf, outcome, Leaves};
+#![tactic(auto)]
+
+ghost use Rattle.std.specs.Prelude.{◌≡◌, ◌≤◌, ◌<◌, length};
+ghost use Rattle.reading.specs.Reading.{reading};
+ghost use Rattle.reader.specs.State.{most_bytes, fresh_of};
+ghost use Rattle.demands.specs.Runs.{took_of};
+ghost use Rattle.protocol.specs.Tallies.{tally_of};
+ghost use Rattle.protocol.specs.Turns.{kind_of, supplied_of, supplied_window, window_after};
+ghost use Rattle.protocol.specs.Outcome.{tallied_of, outcome_of, outcome, Leaves};
+
+use reader::{Answer, Opened, Reader, Taken};
 
 // How many records there are, the answer that closes the reading, and the state after it, which tells the position.
+#[derive(Clone, Copy)]
 pub struct Tally {
     pub records: u64,
     pub closing: Answer,
@@ -22,18 +21,21 @@ pub struct Tally {
 }
 
 // The tally, or 1, 6 or 5.
+#[derive(Clone, Copy)]
 pub enum Counted {
     Done(Tally),
     Refused(u8),
 }
 
 // The state after a request was answered, and how much of the input is then taken.
+#[derive(Clone, Copy)]
 struct Supplied {
     state: Reader,
     at: usize,
 }
 
 // What an answer means to the protocol.
+#[derive(Clone, Copy)]
 enum Kind {
     Record,
     Request,
@@ -41,7 +43,7 @@ enum Kind {
 }
 
 fn kind_of(answer: Answer) -> Kind
-    ensures { λ r. ⌜ r ≡ kindOf answer ⌝ }
+    ensures { result ≡ kind_of answer }
 {
     match answer {
         Answer::Record(_, _) => Kind::Record,
@@ -58,7 +60,7 @@ fn kind_of(answer: Answer) -> Kind
 
 // What feed says that it took.
 fn took(answer: Taken) -> usize
-    ensures { λ r. ⌜ r ≡ tookOf answer ⌝ }
+    ensures { result ≡ took_of answer }
 {
     match answer {
         Taken::Took(t) => t,
@@ -68,9 +70,9 @@ fn took(answer: Taken) -> usize
 
 // Answers a request: offers the input's next bytes, a chunk at most, or notes its end where all of it is taken.
 fn supply(state: Reader, window: &mut [u8], input: &[u8], at: usize, chunk: usize) -> Supplied
-    requires { ⌜ at ≤ length (now input) ⌝ }
-    ensures answer { λ r. ⌜ r ≡ suppliedOf state (now (window .entry)) (now (input .entry)) at chunk ⌝ }
-    ensures bytes { λ _. ⌜ now (window .exit) ≡ suppliedWindow state (now (window .entry)) (now (input .entry)) at chunk ⌝ }
+    requires { at ≤ length input.now }
+    ensures answer { result ≡ supplied_of state window.old input.now at chunk }
+    ensures bytes { window.new ≡ supplied_window state window.old input.now at chunk }
 {
     if input.len() <= at {
         let f = state.finish(window);
@@ -89,9 +91,9 @@ fn supply(state: Reader, window: &mut [u8], input: &[u8], at: usize, chunk: usiz
 
 // Runs the protocol from a fresh state to the answer that closes the reading.
 fn run(fresh: Reader, input: &[u8], window: &mut [u8], chunk: usize) -> Tally
-    requires { ⌜ (fresh ≡ freshOf (length (now window))) × (0 < chunk) × (length (now input) ≤ mostBytes) ⌝ }
-    ensures tally { λ r. ⌜ talliedOf r ≡ tallyOf (reading (now (input .entry)) (length (now (window .entry))) 0 1) ⌝ }
-    ensures bytes { λ _. ⌜ (now (window .exit) ≡ windowAfter (now (input .entry)) (now (window .entry)) chunk) × (length (now (window .exit)) ≡ length (now (window .entry))) ⌝ }
+    requires { (fresh ≡ fresh_of (length window.old)) × (0 < chunk) × (length input.now ≤ most_bytes) }
+    ensures tally { tallied_of result ≡ tally_of (reading input.now (length window.old) 0 1) }
+    ensures bytes { (window.new ≡ window_after input.now window.old chunk) × (length window.new ≡ length window.old) }
 {
     let mut state = fresh;
     let mut at: usize = 0;
@@ -126,8 +128,8 @@ fn run(fresh: Reader, input: &[u8], window: &mut [u8], chunk: usize) -> Tally
 // Counts the records of a whole input, which is handed to a reader in chunks of this size, through a lent window.
 // Refused: 1, a window that open refuses; 6, a chunk size of 0; 5, an input of more than 2^48 bytes; the window then stays as it was.
 pub fn count(input: &[u8], window: &mut [u8], chunk: usize) -> Counted
-    ensures answer { λ r. ⌜ outcomeOf r ≡ outcome (now (input .entry)) (length (now (window .entry))) chunk ⌝ }
-    ensures bytes { λ r. ⌜ Leaves (now (input .entry)) (now (window .entry)) chunk (now (window .exit)) r ⌝ }
+    ensures answer { outcome_of result ≡ outcome input.now (length window.old) chunk }
+    ensures bytes { Leaves input.now window.old chunk window.new result }
 {
     let opened = Reader::open(window.len());
     match opened {

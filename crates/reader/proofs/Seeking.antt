@@ -1,78 +1,75 @@
 -- Laws of open, finish and seek: their answers, by the tests.
 -- Assumes nothing.
-use mathlib.Core.Path.{_≡_, refl, sym, ap, _∙_}
-use mathlib.Core.Bool.{Bool, true, false, _&&_}
-use Prim.Native.Nat.{ℕ, _+_, _-_, _<_, _≤_}
+use mathlib.Core.Path.{◌≡◌}
+use mathlib.Core.Bool.{true, false}
+use Prim.Native.Nat.{ℕ, ◌+◌, ◌-◌, ◌<◌, ◌≤◌}
 use native.Mathlib.Omega.{arith}
-use lib.Dec.{leb, ltb}
 use borrow.Author.Tests.{le-leb, lt-leb, lt-ltb, le-ltb}
-use Rattle·reader·specs.specs.declared.Reader.{Reader}
-use Rattle·reader·specs.specs.declared.Position.{Position}
-use Rattle·reader·specs.specs.declared.Opened.the-variants.{Fresh, Refused}
-use Rattle·reader·specs.specs.declared.Ending.the-variants as endings
-use Rattle·reader·specs.specs.declared.Place.the-variants as places
-use Rattle·reader·specs.specs.declared.Finished.{Finished}
-use Rattle·reader·specs.specs.declared.Moved.{Moved}
-use Rattle·reader·specs.specs.State.{smallest, largest, mostBytes, freshOf, openOf, own}
-use Rattle·reader·specs.specs.Feed.{endedOf, finishOf}
-use Rattle·reader·specs.specs.Seek.{base, isHeld, movedBy, seekBy, seekOf}
+use Rattle.reader.specs.declared.Reader.{Reader}
+use Rattle.reader.specs.declared.Position.{Position}
+use Rattle.reader.specs.declared.Opened.TheVariants.{Fresh, Refused}
+use Rattle.reader.specs.declared.Ending.TheVariants as endings
+use Rattle.reader.specs.declared.Place.TheVariants as places
+use Rattle.reader.specs.State.{smallest, largest, most_bytes, fresh_of, open_of, own}
+use Rattle.reader.specs.Feed.{ended_of, finish_of}
+use Rattle.reader.specs.Seek.{base, is_held, moved_by, seek_of}
 
-pub open-small : (W : ℕ) → W < smallest → Refused 1 ≡ openOf W
-unfolding openOf
-open-small W h = simp (lt-leb smallest W h)
+pub open_small : (W : ℕ) → W < smallest → Refused 1 ≡ open_of W
+unfolding open_of
+open_small W h = simp (lt-leb smallest W h)
 
-pub open-large : (W : ℕ) → smallest ≤ W → largest < W → Refused 1 ≡ openOf W
-unfolding openOf
-open-large W h k = simp (le-leb smallest W h, lt-leb W largest k)
+pub open_large : (W : ℕ) → smallest ≤ W → largest < W → Refused 1 ≡ open_of W
+unfolding open_of
+open_large W h k = simp (le-leb smallest W h, lt-leb W largest k)
 
-pub open-fresh : (W : ℕ) → smallest ≤ W → W ≤ largest → Fresh (freshOf W) ≡ openOf W
-unfolding openOf
-open-fresh W h k = simp (le-leb smallest W h, le-leb W largest k)
+pub open_fresh : (W : ℕ) → smallest ≤ W → W ≤ largest → Fresh (fresh_of W) ≡ open_of W
+unfolding open_of
+open_fresh W h k = simp (le-leb smallest W h, le-leb W largest k)
 
 module _ (s : Reader) (w : ℕ) where
-  pub finish-foreign : own s w ≡ false → record { state = s; answer = endings.Refused 2 } ≡ finishOf s w
-  unfolding finishOf
-  finish-foreign e = rw e
+  pub finish_foreign : own s w ≡ false → record { state = s; answer = endings.Refused 2 } ≡ finish_of s w
+  unfolding finish_of
+  finish_foreign e = rw e
 
-  pub finish-ended : own s w ≡ true → s .ended ≡ true → record { state = s; answer = endings.Refused 4 } ≡ finishOf s w
-  unfolding finishOf
-  finish-ended e k = rw (e, k)
+  pub finish_ended : own s w ≡ true → s.ended ≡ true → record { state = s; answer = endings.Refused 4 } ≡ finish_of s w
+  unfolding finish_of
+  finish_ended e k = rw (e, k)
 
-  pub finish-unasked : own s w ≡ true → s .ended ≡ false → s .waiting ≡ false → record { state = s; answer = endings.Refused 3 } ≡ finishOf s w
-  unfolding finishOf
-  finish-unasked e k h = rw (e, k, h)
+  pub finish_unasked : own s w ≡ true → s.ended ≡ false → s.waiting ≡ false → record { state = s; answer = endings.Refused 3 } ≡ finish_of s w
+  unfolding finish_of
+  finish_unasked e k h = rw (e, k, h)
 
-  pub finish-notes : own s w ≡ true → s .ended ≡ false → s .waiting ≡ true → record { state = endedOf s; answer = endings.Noted } ≡ finishOf s w
-  unfolding finishOf
-  finish-notes e k h = simp (e, k, h)
+  pub finish_notes : own s w ≡ true → s.ended ≡ false → s.waiting ≡ true → record { state = ended_of s; answer = endings.Noted } ≡ finish_of s w
+  unfolding finish_of
+  finish_notes e k h = simp (e, k, h)
 
 -- whether a place is held
 module _ (s : Reader) (q : ℕ) where
-  pub held-before : q < base s → false ≡ isHeld s q
-  unfolding isHeld
-  held-before h = simp (lt-leb (base s) q h)
+  pub held_before : q < base s → false ≡ is_held s q
+  unfolding is_held
+  held_before h = simp (lt-leb (base s) q h)
 
-  pub held-behind : base s ≤ q → s .fill ≤ q - base s → false ≡ isHeld s q
-  unfolding isHeld
-  held-behind h k = simp (le-leb (base s) q h, le-ltb q (base s + s .fill) (omega arith))
+  pub held_behind : base s ≤ q → s.fill ≤ q - base s → false ≡ is_held s q
+  unfolding is_held
+  held_behind h k = simp (le-leb (base s) q h, le-ltb q (base s + s.fill) (omega arith))
 
-  pub held-inside : base s ≤ q → q - base s < s .fill → true ≡ isHeld s q
-  unfolding isHeld
-  held-inside h k = simp (le-leb (base s) q h, lt-ltb q (base s + s .fill) (omega arith))
+  pub held_inside : base s ≤ q → q - base s < s.fill → true ≡ is_held s q
+  unfolding is_held
+  held_inside h k = simp (le-leb (base s) q h, lt-ltb q (base s + s.fill) (omega arith))
 
 module _ (s : Reader) (w : ℕ) (p : Position) where
-  pub seek-foreign : own s w ≡ false → record { state = s; answer = places.Refused 2 } ≡ seekOf s w p
-  unfolding seekOf
-  seek-foreign e = rw e
+  pub seek_foreign : own s w ≡ false → record { state = s; answer = places.Refused 2 } ≡ seek_of s w p
+  unfolding seek_of
+  seek_foreign e = rw e
 
-  pub seek-far-line : own s w ≡ true → mostBytes < p .line .0 → record { state = s; answer = places.Refused 5 } ≡ seekOf s w p
-  unfolding seekOf
-  seek-far-line e h = simp (e, lt-leb (p .line .0) mostBytes h)
+  pub seek_far_line : own s w ≡ true → most_bytes < p.line.0 → record { state = s; answer = places.Refused 5 } ≡ seek_of s w p
+  unfolding seek_of
+  seek_far_line e h = simp (e, lt-leb p.line.0 most_bytes h)
 
-  pub seek-far-byte : own s w ≡ true → p .line .0 ≤ mostBytes → mostBytes < p .byte .0 → record { state = s; answer = places.Refused 5 } ≡ seekOf s w p
-  unfolding seekOf
-  seek-far-byte e k h = simp (e, le-leb (p .line .0) mostBytes k, lt-leb (p .byte .0) mostBytes h)
+  pub seek_far_byte : own s w ≡ true → p.line.0 ≤ most_bytes → most_bytes < p.byte.0 → record { state = s; answer = places.Refused 5 } ≡ seek_of s w p
+  unfolding seek_of
+  seek_far_byte e k h = simp (e, le-leb p.line.0 most_bytes k, lt-leb p.byte.0 most_bytes h)
 
-  pub seek-moves : own s w ≡ true → p .line .0 ≤ mostBytes → p .byte .0 ≤ mostBytes → movedBy s p (isHeld s (p .byte .0)) ≡ seekOf s w p
-  unfolding seekOf
-  seek-moves e k h = simp (e, le-leb (p .line .0) mostBytes k, le-leb (p .byte .0) mostBytes h)
+  pub seek_moves : own s w ≡ true → p.line.0 ≤ most_bytes → p.byte.0 ≤ most_bytes → moved_by s p (is_held s p.byte.0) ≡ seek_of s w p
+  unfolding seek_of
+  seek_moves e k h = simp (e, le-leb p.line.0 most_bytes k, le-leb p.byte.0 most_bytes h)

@@ -1,36 +1,37 @@
 // The reader: a state that is handed in and handed back changed, over a window that the caller lends.
 // Feed and finish bring input, next answers, seek moves, position tells. Each call takes any state, window and numbers, and does its own checking.
-use record::Check;
-use record::Noted;
-use record::Range;
-use record::Record;
-ghost use mathlib.Core.Path.{_≡_};
-ghost use mathlib.Core.Bool.{false};
-ghost use Prim.Native.Nat.{_+_, _-_, _≤_, _<_};
-ghost use lib.ListN.{length};
-ghost use lib.Seq.{slice};
-ghost use Rattle·reading.specs.Bytes.{isEmpty, trimCr, pieces, allBlank};
-ghost use Rattle·reading.specs.Reading.{endId};
-ghost use Rattle·record.specs.Noted.{listed};
-ghost use Rattle·record.specs.Check.{rangeOf};
-ghost use Rattle·reader·specs.specs.State.{openOf, positionOf, notesFit, own, Own, Notes};
-ghost use Rattle·reader·specs.specs.Feed.{feedOf, takingOf, finishOf, fedWindow, filled, frontOf, notesFrom};
-ghost use Rattle·reader·specs.specs.Next.{nextOf, seekingOf, onwardOf, decidedOf};
-ghost use Rattle·reader·specs.specs.Seek.{seekOf, movedBy};
-ghost use Rattle·reader·specs.specs.Inside.{putOf, landOf, nothingOf, numbersOf, tailOf, judgedOf, positionAt, movedOf, Seeks};
+#![tactic(auto)]
+
+ghost use Rattle.std.specs.Prelude.{◌≡◌, false, ◌+◌, ◌-◌, ◌≤◌, ◌<◌, length};
+ghost use Rattle.std.proofs.Math.Seq.{slice};
+ghost use Rattle.reading.specs.Bytes.{is_empty, trim_cr, pieces, all_blank};
+ghost use Rattle.reading.specs.Reading.{end_id};
+ghost use Rattle.record.specs.Noted.{listed};
+ghost use Rattle.record.specs.Check.{range_of};
+ghost use Rattle.reader.specs.State.{open_of, position_of, notes_fit, own, Own, Notes};
+ghost use Rattle.reader.specs.Feed.{feed_of, taking_of, finish_of, fed_window, filled, front_of, notes_from};
+ghost use Rattle.reader.specs.Next.{next_of, seeking_of, onward_of, decided_of};
+ghost use Rattle.reader.specs.Seek.{seek_of, moved_by};
+ghost use Rattle.reader.specs.Inside.{put_of, land_of, nothing_of, numbers_of, tail_of, judged_of, position_at, moved_of, Seeks};
+
+use record::{Check, Noted, Range, Record};
 
 // Line numbers and byte offsets are kinds that can't be mixed.
+#[derive(Clone, Copy)]
 pub struct Line(pub u64);
 
+#[derive(Clone, Copy)]
 pub struct Byte(pub u64);
 
 // Where a record starts: its line, and its offset in the input.
+#[derive(Clone, Copy)]
 pub struct Position {
     pub line: Line,
     pub byte: Byte,
 }
 
 // The state. Held bytes are window[..fill]; window[0] is the input's byte number byte - start.
+#[derive(Clone, Copy)]
 pub struct Reader {
     pub window: usize, // the window's length
     pub start: usize, // where the record starts that is sought or was answered
@@ -45,34 +46,40 @@ pub struct Reader {
 }
 
 // What open answers: a fresh state, or 1.
+#[derive(Clone, Copy)]
 pub enum Opened {
     Fresh(Reader),
     Refused(u8),
 }
 
 // What feed took, or 2, 4, 3 or 5.
+#[derive(Clone, Copy)]
 pub enum Taken {
     Took(usize),
     Refused(u8),
 }
 
+#[derive(Clone, Copy)]
 pub struct Fed {
     pub state: Reader,
     pub answer: Taken,
 }
 
 // The end is noted, or 2, 4 or 3.
+#[derive(Clone, Copy)]
 pub enum Ending {
     Noted,
     Refused(u8),
 }
 
+#[derive(Clone, Copy)]
 pub struct Finished {
     pub state: Reader,
     pub answer: Ending,
 }
 
 // What next answers. A record's five numbers and an id's range are places in the window; the byte beside them is absolute.
+#[derive(Clone, Copy)]
 pub enum Answer {
     Record(Record, Byte),
     More,
@@ -85,24 +92,28 @@ pub enum Answer {
     Refused(u8),
 }
 
+#[derive(Clone, Copy)]
 pub struct Next {
     pub state: Reader,
     pub answer: Answer,
 }
 
 // The place is among the held bytes; or the byte to feed from; or 2 or 5.
+#[derive(Clone, Copy)]
 pub enum Place {
     Inside,
     FeedFrom(Byte),
     Refused(u8),
 }
 
+#[derive(Clone, Copy)]
 pub struct Moved {
     pub state: Reader,
     pub answer: Place,
 }
 
 // What next answers but for the state's numbers, and whether it then waits or is closed.
+#[derive(Clone, Copy)]
 pub struct Decided {
     pub answer: Answer,
     pub waiting: bool,
@@ -122,7 +133,7 @@ impl Reader {
 
     // A fresh state for windows of this length: line 1, byte 0, nothing held, waiting.
     pub fn open(window: usize) -> Opened
-        ensures { λ r. ⌜ r ≡ openOf window ⌝ }
+        ensures { result ≡ open_of window }
     {
         if window < Reader::SMALLEST {
             return Opened::Refused(1);
@@ -146,7 +157,7 @@ impl Reader {
 
     // The record last answered, the one being sought, or the one in error.
     pub fn position(self) -> Position
-        ensures { λ r. ⌜ r ≡ positionOf self ⌝ }
+        ensures { result ≡ position_of self }
     {
         let line = self.line;
         let byte = self.byte;
@@ -155,7 +166,7 @@ impl Reader {
 
     // Not foreign: the state belongs to a window of n bytes.
     pub fn owns(self, n: usize) -> bool
-        ensures { λ r. ⌜ r ≡ own self n ⌝ }
+        ensures { result ≡ own self n }
     {
         let start = self.start;
         let fill = self.fill;
@@ -181,7 +192,7 @@ impl Reader {
 
 // The noted line ends rise from start on and lie before fill, and the mark is past the last of them, up to fill.
 fn notes_fit(noted: Noted, start: usize, fill: usize, mark: usize) -> bool
-    ensures { λ r. ⌜ r ≡ notesFit start fill mark (listed noted) ⌝ }
+    ensures { result ≡ notes_fit start fill mark (listed noted) }
 {
     match noted {
         Noted::Zero => (start <= mark) & (mark <= fill),
@@ -209,7 +220,7 @@ fn notes_fit(noted: Noted, start: usize, fill: usize, mark: usize) -> bool
 
 // The noted line ends, counted from start.
 fn notes_from(noted: Noted, start: usize) -> Noted
-    ensures { λ r. ⌜ r ≡ notesFrom start noted ⌝ }
+    ensures { result ≡ notes_from start noted }
 {
     match noted {
         Noted::Zero => Noted::Zero,
@@ -232,8 +243,8 @@ fn notes_from(noted: Noted, start: usize) -> Noted
 impl Reader {
     // The same with t bytes more held.
     fn with_fill(self, t: usize) -> Reader
-        requires { ⌜ self .fill + t ≤ self .window ⌝ }
-        ensures { λ r. ⌜ r ≡ filled self t ⌝ }
+        requires { self.fill + t ≤ self.window }
+        ensures { result ≡ filled self t }
     {
         let mut s = self;
         s.fill = s.fill + t;
@@ -242,7 +253,7 @@ impl Reader {
 
     // The same with the kept bytes at the window's front.
     fn to_front(self) -> Reader
-        ensures { λ r. ⌜ r ≡ frontOf self ⌝ }
+        ensures { result ≡ front_of self }
     {
         let noted = self.noted;
         let start = self.start;
@@ -265,8 +276,8 @@ impl Reader {
 
     // What feed answers where it does not refuse with 2, 4 or 3: n is the chunk's length.
     fn taking(self, n: usize) -> Fed
-        requires { ⌜ Own self (self .window) ⌝ }
-        ensures { λ r. ⌜ r ≡ takingOf self n ⌝ }
+        requires { Own self self.window }
+        ensures { result ≡ taking_of self n }
     {
         let start = self.start;
         let fill = self.fill;
@@ -298,7 +309,7 @@ impl Reader {
 
     // What feed answers, of the window's and the chunk's lengths alone.
     fn plan(self, w: usize, n: usize) -> Fed
-        ensures { λ r. ⌜ r ≡ feedOf self w n ⌝ }
+        ensures { result ≡ feed_of self w n }
     {
         if !self.owns(w) {
             return Fed {
@@ -323,8 +334,8 @@ impl Reader {
 
     // Takes as much of the chunk as there is room for beside the kept bytes, and stores it behind the held ones.
     pub fn feed(self, window: &mut [u8], chunk: &[u8]) -> Fed
-        ensures answer { λ r. ⌜ r ≡ feedOf self (length (now (window .entry))) (length (now (chunk .entry))) ⌝ }
-        ensures bytes { λ _. ⌜ now (window .exit) ≡ fedWindow self (now (window .entry)) (now (chunk .entry)) ⌝ }
+        ensures answer { result ≡ feed_of self (length window.old) (length chunk.now) }
+        ensures bytes { window.new ≡ fed_window self window.old chunk.now }
     {
         let start = self.start;
         let fill = self.fill;
@@ -341,7 +352,7 @@ impl Reader {
 
     // Notes the end of the input.
     pub fn finish(self, window: &[u8]) -> Finished
-        ensures { λ r. ⌜ r ≡ finishOf self (length (now (window .entry))) ⌝ }
+        ensures { result ≡ finish_of self (length window.now) }
     {
         if !self.owns(window.len()) {
             return Finished {
@@ -372,16 +383,16 @@ impl Reader {
 
 // As many of the chunk's bytes as the window has room for land from `at` on.
 fn put(window: &mut [u8], at: usize, chunk: &[u8])
-    requires { ⌜ at ≤ length (now window) ⌝ }
-    ensures { λ _. ⌜ now (window .exit) ≡ putOf (now (window .entry)) at (now (chunk .entry)) ⌝ }
+    requires { at ≤ length window.old }
+    ensures { window.new ≡ put_of window.old at chunk.now }
 {
     lines::copy_into(&mut window[at..], chunk);
 }
 
 // The chunk's bytes land behind the held ones, which move to the front first where the chunk is longer than the room behind them.
 fn land(window: &mut [u8], chunk: &[u8], start: usize, fill: usize)
-    requires { ⌜ (start ≤ fill) × (fill ≤ length (now window)) ⌝ }
-    ensures { λ _. ⌜ now (window .exit) ≡ landOf (now (window .entry)) (now (chunk .entry)) start fill ⌝ }
+    requires { (start ≤ fill) × (fill ≤ length window.old) }
+    ensures { window.new ≡ land_of window.old chunk.now start fill }
 {
     if window.len() - fill < chunk.len() {
         lines::move_front(window, start, fill);
@@ -393,7 +404,7 @@ fn land(window: &mut [u8], chunk: &[u8], start: usize, fill: usize)
 
 // How many line ends are noted.
 fn count(noted: Noted) -> u64
-    ensures { λ r. ⌜ r ≡ length (listed noted) ⌝ }
+    ensures { result ≡ length (listed noted) }
 {
     match noted {
         Noted::Zero => 0,
@@ -406,8 +417,8 @@ fn count(noted: Noted) -> u64
 
 // The five numbers of a record with three or four line ends noted: without the fourth it ends where the bytes do.
 fn numbers(noted: Noted, start: usize, end: usize) -> Record
-    requires { ⌜ Notes start end end (listed noted) ⌝ }
-    ensures { λ r. ⌜ r ≡ numbersOf noted start end ⌝ }
+    requires { Notes start end end (listed noted) }
+    ensures { result ≡ numbers_of noted start end }
 {
     match noted {
         Noted::Four(a, b, c, d) => Record {
@@ -432,7 +443,7 @@ fn numbers(noted: Noted, start: usize, end: usize) -> Record
 
 // Five numbers that are no record's.
 fn nothing() -> Record
-    ensures { λ r. ⌜ r ≡ nothingOf ⌝ }
+    ensures { result ≡ nothing_of }
 {
     Record {
         start: 0,
@@ -445,8 +456,8 @@ fn nothing() -> Record
 
 // The bytes from `from` up to `to` are at most a carriage return.
 fn is_blank(s: &[u8], from: usize, to: usize) -> bool
-    requires { ⌜ (from ≤ to) × (to ≤ length (now s)) ⌝ }
-    ensures { λ r. ⌜ r ≡ isEmpty (trimCr (slice from to (now (s .entry)))) ⌝ }
+    requires { (from ≤ to) × (to ≤ length s.now) }
+    ensures { result ≡ is_empty (trim_cr (slice from to s.now)) }
 {
     let t = lines::trim_cr(&s[from..to]);
     t.len() == 0
@@ -454,8 +465,8 @@ fn is_blank(s: &[u8], from: usize, to: usize) -> bool
 
 // Every piece of a tail with at most two line ends is empty after `trim_cr`.
 fn blank(held: &[u8], start: usize, noted: Noted) -> bool
-    requires { ⌜ (length (listed noted) < 3) × Notes start (length (now held)) (length (now held)) (listed noted) ⌝ }
-    ensures { λ r. ⌜ r ≡ allBlank (pieces (now (held .entry)) start (listed noted)) ⌝ }
+    requires { (length (listed noted) < 3) × Notes start (length held.now) (length held.now) (listed noted) }
+    ensures { result ≡ all_blank (pieces held.now start (listed noted)) }
 {
     let end = held.len();
     match noted {
@@ -471,8 +482,8 @@ fn blank(held: &[u8], start: usize, noted: Noted) -> bool
 
 // The id of an unexpected end: only if there was a line end.
 fn end_id(held: &[u8], start: usize, noted: Noted) -> Range
-    requires { ⌜ Notes start (length (now held)) (length (now held)) (listed noted) ⌝ }
-    ensures { λ r. ⌜ r ≡ rangeOf (endId (now (held .entry)) start (listed noted)) ⌝ }
+    requires { Notes start (length held.now) (length held.now) (listed noted) }
+    ensures { result ≡ range_of (end_id held.now start (listed noted)) }
 {
     match noted {
         Noted::Zero => Range::Absent,
@@ -485,8 +496,8 @@ fn end_id(held: &[u8], start: usize, noted: Noted) -> Range
 
 // The answer where the input ends with at most two line ends of a record noted.
 fn tail(held: &[u8], start: usize, line: Line, noted: Noted) -> Decided
-    requires { ⌜ (length (listed noted) < 3) × Notes start (length (now held)) (length (now held)) (listed noted) × (line .0 ≤ 1125899906842624) ⌝ }
-    ensures { λ r. ⌜ r ≡ tailOf (now (held .entry)) start (line .0) noted ⌝ }
+    requires { (length (listed noted) < 3) × Notes start (length held.now) (length held.now) (listed noted) × (line.0 ≤ 1125899906842624) }
+    ensures { result ≡ tail_of held.now start line.0 noted }
 {
     if blank(held, start, noted) {
         return Decided {
@@ -506,8 +517,8 @@ fn tail(held: &[u8], start: usize, line: Line, noted: Noted) -> Decided
 
 // The answer for a record whose numbers are known; the last one has no final LF, and closes.
 fn judged(held: &[u8], r: Record, line: Line, byte: Byte, last: bool) -> Decided
-    requires { ⌜ line .0 ≤ 1125899906842624 ⌝ }
-    ensures { λ d. ⌜ d ≡ judgedOf (now (held .entry)) r (line .0) byte last ⌝ }
+    requires { line.0 ≤ 1125899906842624 }
+    ensures { result ≡ judged_of held.now r line.0 byte last }
 {
     let c = r.validate(held);
     match c {
@@ -535,6 +546,7 @@ fn judged(held: &[u8], r: Record, line: Line, byte: Byte, last: bool) -> Decided
 }
 
 // The answer once the held bytes are searched.
+#[tactic(auto, using(crate::proofs::Nexting::decided_limit, crate::proofs::Nexting::decided_more, crate::proofs::Nexting::decided_tail, crate::proofs::Nexting::decided_judged))]
 fn decide(
     held: &[u8],
     window: usize,
@@ -544,8 +556,8 @@ fn decide(
     ended: bool,
     noted: Noted,
 ) -> Decided
-    requires { ⌜ Notes start (length (now held)) (length (now held)) (listed noted) × (line .0 ≤ 1125899906842624) ⌝ }
-    ensures { λ r. ⌜ r ≡ decidedOf (now (held .entry)) window start (line .0) byte ended noted ⌝ }
+    requires { Notes start (length held.now) (length held.now) (listed noted) × (line.0 ≤ 1125899906842624) }
+    ensures { result ≡ decided_of held.now window start line.0 byte ended noted }
 {
     let n = count(noted);
     let few = n < 4;
@@ -573,8 +585,8 @@ fn decide(
 impl Reader {
     // From a complete record that was answered to the one behind it.
     fn onward(self) -> Reader
-        requires { ⌜ Own self (self .window) ⌝ }
-        ensures { λ r. ⌜ r ≡ onwardOf self ⌝ }
+        requires { Own self self.window }
+        ensures { result ≡ onward_of self }
     {
         let noted = self.noted;
         match noted {
@@ -605,8 +617,8 @@ impl Reader {
 
     // Searches on, and answers.
     fn seeking(self, window: &[u8]) -> Next
-        requires { ⌜ Seeks self (length (now window)) ⌝ }
-        ensures { λ r. ⌜ r ≡ seekingOf self (now (window .entry)) ⌝ }
+        requires { Seeks self (length window.now) }
+        ensures { result ≡ seeking_of self window.now }
     {
         let fill = self.fill;
         let start = self.start;
@@ -637,7 +649,7 @@ impl Reader {
 
     // The next answer: a record, more input wanted, an error, window limit or End.
     pub fn next(self, window: &[u8]) -> Next
-        ensures { λ r. ⌜ r ≡ nextOf self (now (window .entry)) ⌝ }
+        ensures { result ≡ next_of self window.now }
     {
         if !self.owns(window.len()) {
             return Next {
@@ -659,7 +671,7 @@ impl Reader {
 
     // To another line and byte, among the held bytes or outside them; a closed reading opens again.
     pub fn seek(self, window: &[u8], to: Position) -> Moved
-        ensures { λ r. ⌜ r ≡ seekOf self (length (now (window .entry))) to ⌝ }
+        ensures { result ≡ seek_of self (length window.now) to }
     {
         if !self.owns(window.len()) {
             return Moved {
@@ -685,8 +697,8 @@ impl Reader {
     }
 
     fn moved(self, line: Line, byte: Byte) -> Moved
-        requires { ⌜ Own self (self .window) ⌝ }
-        ensures { λ r. ⌜ r ≡ movedOf self line byte ⌝ }
+        requires { Own self self.window }
+        ensures { result ≡ moved_of self line byte }
     {
         let at = self.byte;
         let base = at.0 - (self.start as u64);
@@ -717,7 +729,7 @@ impl Reader {
 
     // Nothing is held: the input is to be fed from there on.
     fn outside(self, line: Line, byte: Byte) -> Moved
-        ensures { λ r. ⌜ r ≡ movedBy self (positionAt line byte) false ⌝ }
+        ensures { result ≡ moved_by self (position_at line byte) false }
     {
         Moved {
             state: Reader {

@@ -1,7 +1,7 @@
 -- What a reading answers: records, errors and End, with the numbers of document 01's table. Offsets are absolute.
 -- Assumes nothing.
-use Prim.Native.Nat.{ℕ}
-use mathlib.Core.Option.{Option, none, some}
+use Rattle.std.specs.Prelude.{ℕ}
+use Rattle.std.proofs.Math.Option.{Option, none, some}
 
 -- the five numbers of a record: its start, the offsets after its first, second and third LF, and its end
 pub record Five : Type 0 where
@@ -23,27 +23,27 @@ pub data Answer : Type 0 where
   -- a record
   found : Five → Answer
   -- window limit: line, byte
-  windowLimit : ℕ → ℕ → Answer
+  window_limit : ℕ → ℕ → Answer
   -- invalid start: byte found, line
-  invalidStart : ℕ → ℕ → Answer
+  invalid_start : ℕ → ℕ → Answer
   -- invalid separator: byte found, line, id
-  invalidSeparator : ℕ → ℕ → Id → Answer
+  invalid_separator : ℕ → ℕ → Id → Answer
   -- unequal lengths: both lengths, line, id
-  unequalLengths : ℕ → ℕ → ℕ → Id → Answer
+  unequal_lengths : ℕ → ℕ → ℕ → Id → Answer
   -- unexpected end: line, id
-  unexpectedEnd : ℕ → Id → Answer
+  unexpected_end : ℕ → Id → Answer
   -- End
   ended : Answer
 
 -- the table's number of an answer; a record and End have none
-abbrev pub numberOf : Answer → Option ℕ
-numberOf (found r) = none
-numberOf (windowLimit L p) = some 7
-numberOf (invalidStart b L) = some 8
-numberOf (invalidSeparator b L i) = some 9
-numberOf (unequalLengths n m L i) = some 10
-numberOf (unexpectedEnd L i) = some 11
-numberOf ended = none
+abbrev pub number_of : Answer → Option ℕ
+number_of (found r) = none
+number_of (window_limit L p) = some 7
+number_of (invalid_start b L) = some 8
+number_of (invalid_separator b L i) = some 9
+number_of (unequal_lengths n m L i) = some 10
+number_of (unexpected_end L i) = some 11
+number_of ended = none
 
 -- an answer, and the position after it
 pub record Told : Type 0 where

@@ -1,11 +1,7 @@
 -- Bytes: line ends, `trim_cr`, the split into pieces, where an id ends.
 -- Assumes nothing.
-use Prim.Native.Nat.{ℕ, suc, _+_, _-_}
-use mathlib.Core.Bool.{Bool, true, false, _&&_, cond}
-use mathlib.Core.List.{List, [], _∷_}
-use lib.ListN.{length, getD, take, drop}
-use lib.Seq.{slice}
-use lib.Dec.{eqb}
+use Rattle.std.specs.Prelude.{ℕ, suc, ◌+◌, ◌-◌, Bool, true, false, ◌&&◌, cond, List, [], ◌∷◌, length, get_or, take, drop, eqb}
+use Rattle.std.proofs.Math.Seq.{slice}
 
 -- LF is byte 10
 abbrev pub LF : ℕ
@@ -15,53 +11,53 @@ LF = 10
 abbrev pub CR : ℕ
 CR = 13
 
-abbrev pub Space : ℕ
-Space = 32
+abbrev pub SPACE : ℕ
+SPACE = 32
 
 -- `@`
-abbrev pub At : ℕ
-At = 64
+abbrev pub AT : ℕ
+AT = 64
 
 -- `+`
-abbrev pub Plus : ℕ
-Plus = 43
+abbrev pub PLUS : ℕ
+PLUS = 43
 
 -- the byte at an offset
-abbrev pub byteAt : List ℕ → ℕ → ℕ
-byteAt B i = getD B i 0
+abbrev pub byte_at : List ℕ → ℕ → ℕ
+byte_at B i = get_or B i 0
 
 abbrev pub keep : Bool → ℕ → List ℕ → List ℕ
 keep true o es = o ∷ es
 keep false o es = es
 
 -- the offsets of the LFs of bytes, the first of which has offset `o`
-unfoldable pub lineEnds : ℕ → List ℕ → List ℕ
-lineEnds o [] = []
-lineEnds o (b ∷ bs) = keep (eqb b LF) o (lineEnds (suc o) bs)
+unfoldable pub line_ends : ℕ → List ℕ → List ℕ
+line_ends o [] = []
+line_ends o (b ∷ bs) = keep (eqb b LF) o (line_ends (suc o) bs)
 
 -- `trim_cr` takes off one final carriage return, if any
-unfoldable pub trimCr : List ℕ → List ℕ
-trimCr s = cond (eqb (byteAt s (length s - 1)) CR) (take (length s - 1) s) s
+unfoldable pub trim_cr : List ℕ → List ℕ
+trim_cr s = cond (eqb (byte_at s (length s - 1)) CR) (take (length s - 1) s) s
 
 -- the bytes from p on, split at each of their line ends `es`
 unfoldable pub pieces : List ℕ → ℕ → List ℕ → List (List ℕ)
 pieces B p [] = drop p B ∷ []
 pieces B p (e ∷ es) = slice p e B ∷ pieces B (e + 1) es
 
-abbrev pub isEmpty : List ℕ → Bool
-isEmpty [] = true
-isEmpty (b ∷ bs) = false
+abbrev pub is_empty : List ℕ → Bool
+is_empty [] = true
+is_empty (b ∷ bs) = false
 
 -- every piece is empty after `trim_cr`
-unfoldable pub allBlank : List (List ℕ) → Bool
-allBlank [] = true
-allBlank (s ∷ ss) = isEmpty (trimCr s) && allBlank ss
+unfoldable pub all_blank : List (List ℕ) → Bool
+all_blank [] = true
+all_blank (s ∷ ss) = is_empty (trim_cr s) && all_blank ss
 
 -- an id ends at a space
-abbrev pub endsId : ℕ → Bool
-endsId b = eqb b Space
+abbrev pub ends_id : ℕ → Bool
+ends_id b = eqb b SPACE
 
 -- how many bytes of a head are its id: those up to the first that ends an id, or all
-unfoldable pub idLength : List ℕ → ℕ
-idLength [] = 0
-idLength (b ∷ bs) = cond (endsId b) 0 (suc (idLength bs))
+unfoldable pub id_length : List ℕ → ℕ
+id_length [] = 0
+id_length (b ∷ bs) = cond (ends_id b) 0 (suc (id_length bs))

@@ -1,12 +1,10 @@
 -- The noted line ends, and what the search that goes on where it stopped finds.
 -- Assumes nothing.
-use Prim.Native.Nat.{ℕ, _+_}
-use mathlib.Core.List.{List, [], _∷_, _++_}
-use lib.ListN.{length, drop}
-use Rattle·reading.specs.Bytes.{lineEnds}
-use Rattle·record·specs.specs.declared.Noted.{Noted}
-use Rattle·record·specs.specs.declared.Noted.the-variants.{Zero, One, Two, Three, Four}
-use Rattle·record·specs.specs.declared.Sought.{Sought}
+use Rattle.std.specs.Prelude.{ℕ, ◌+◌, List, [], ◌∷◌, length, drop}
+use Rattle.reading.specs.Bytes.{line_ends}
+use Rattle.record.specs.declared.Noted.{Noted}
+use Rattle.record.specs.declared.Noted.TheVariants.{Zero, One, Two, Three, Four}
+use Rattle.record.specs.declared.Sought.{Sought}
 
 -- the noted line ends as a list
 abbrev pub listed : Noted → List ℕ
@@ -29,15 +27,15 @@ gathered n (a ∷ b ∷ c ∷ d ∷ es) = sought (Four a b c d) (d + 1)
 
 -- the line ends of the held bytes h from the mark m on
 abbrev pub after : List ℕ → ℕ → List ℕ
-after h m = lineEnds m (drop m h)
+after h m = line_ends m (drop m h)
 
-abbrev pub soughtBy : List ℕ → ℕ → Noted → Sought
-soughtBy h m (Four a b c d) = sought (Four a b c d) m
-soughtBy h m Zero = gathered (length h) (after h m)
-soughtBy h m (One a) = gathered (length h) (a ∷ after h m)
-soughtBy h m (Two a b) = gathered (length h) (a ∷ b ∷ after h m)
-soughtBy h m (Three a b c) = gathered (length h) (a ∷ b ∷ c ∷ after h m)
+abbrev pub sought_by : List ℕ → ℕ → Noted → Sought
+sought_by h m (Four a b c d) = sought (Four a b c d) m
+sought_by h m Zero = gathered (length h) (after h m)
+sought_by h m (One a) = gathered (length h) (a ∷ after h m)
+sought_by h m (Two a b) = gathered (length h) (a ∷ b ∷ after h m)
+sought_by h m (Three a b c) = gathered (length h) (a ∷ b ∷ c ∷ after h m)
 
 -- the search of the held bytes h from the mark m on, where `e` are the notes so far; with four noted there is nothing to search
-unfoldable pub soughtOf : List ℕ → Noted → ℕ → Sought
-soughtOf h e m = soughtBy h m e
+unfoldable pub sought_of : List ℕ → Noted → ℕ → Sought
+sought_of h e m = sought_by h m e

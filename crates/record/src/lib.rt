@@ -1,19 +1,19 @@
 // A record in a window: the search for its line ends, which goes on where it stopped, its validation, and its views.
 // Each function takes any bytes and any numbers.
+#![tactic(auto)]
+
+ghost use Rattle.std.specs.Prelude.{◌≡◌, ◌+◌, ◌-◌, ◌≤◌, ◌∷◌, length};
+ghost use Rattle.std.proofs.Math.Seq.{slice};
+ghost use Rattle.reading.specs.Bytes.{byte_at, trim_cr, line_ends, id_length};
+ghost use Rattle.reading.specs.Reading.{validate, lengths_agree, error_id};
+ghost use Rattle.record.specs.Noted.{sought_of, gathered, after};
+ghost use Rattle.record.specs.Check.{five_of, range_of, check_of};
+ghost use Rattle.record.specs.Views.{view_test, Shows, head_view, seq_view, qual_view, id_view, desc_view, has_desc};
+
 use lines::Found;
-ghost use mathlib.Core.Path.{_≡_};
-ghost use Prim.Native.Nat.{_+_, _-_, _≤_};
-ghost use mathlib.Core.List.{_∷_};
-ghost use lib.ListN.{length};
-ghost use lib.Seq.{slice};
-ghost use denote.Ref.{ptr};
-ghost use Rattle·reading.specs.Bytes.{byteAt, trimCr, lineEnds, idLength};
-ghost use Rattle·reading.specs.Reading.{validate, lengthsAgree, errorId};
-ghost use Rattle·record·specs.specs.Noted.{soughtOf, gathered, after};
-ghost use Rattle·record·specs.specs.Check.{fiveOf, rangeOf, checkOf};
-ghost use Rattle·record·specs.specs.Views.{viewTest, Shows, headView, seqView, qualView, idView, descView, hasDesc};
 
 // The line ends noted so far, of the record that is sought or was answered: one variant for each count.
+#[derive(Clone, Copy)]
 pub enum Noted {
     Zero,
     One(usize),
@@ -23,18 +23,21 @@ pub enum Noted {
 }
 
 // The notes after a search, and the place up to which bytes are searched.
+#[derive(Clone, Copy)]
 pub struct Sought {
     pub noted: Noted,
     pub mark: usize,
 }
 
 // A range of bytes of the window, or none.
+#[derive(Clone, Copy)]
 pub enum Range {
     Absent,
     Bytes(usize, usize),
 }
 
 // What validation says: the values of errors 8, 9 and 10 but for the line.
+#[derive(Clone, Copy)]
 pub enum Check {
     Good,
     Start(u8),
@@ -43,6 +46,7 @@ pub enum Check {
 }
 
 // The five numbers of a record: its start, the places after its first, second and third LF, and its end.
+#[derive(Clone, Copy)]
 pub struct Record {
     pub start: usize,
     pub seq: usize,
@@ -53,7 +57,7 @@ pub struct Record {
 
 // Searches on for the line ends that are missing of four, from `mark` to the end of the held bytes.
 pub fn search(held: &[u8], noted: Noted, mark: usize) -> Sought
-    ensures { λ r. ⌜ r ≡ soughtOf (now (held .entry)) noted mark ⌝ }
+    ensures { result ≡ sought_of held.now noted mark }
 {
     match noted {
         Noted::Zero => from_head(held, mark),
@@ -68,7 +72,7 @@ pub fn search(held: &[u8], noted: Noted, mark: usize) -> Sought
 }
 
 fn from_head(held: &[u8], mark: usize) -> Sought
-    ensures { λ r. ⌜ r ≡ gathered (length (now (held .entry))) (after (now (held .entry)) mark) ⌝ }
+    ensures { result ≡ gathered (length held.now) (after held.now mark) }
 {
     let f = lines::find_line(held, mark);
     match f {
@@ -81,7 +85,7 @@ fn from_head(held: &[u8], mark: usize) -> Sought
 }
 
 fn from_seq(held: &[u8], a: usize, mark: usize) -> Sought
-    ensures { λ r. ⌜ r ≡ gathered (length (now (held .entry))) (a ∷ after (now (held .entry)) mark) ⌝ }
+    ensures { result ≡ gathered (length held.now) (a ∷ after held.now mark) }
 {
     let f = lines::find_line(held, mark);
     match f {
@@ -94,7 +98,7 @@ fn from_seq(held: &[u8], a: usize, mark: usize) -> Sought
 }
 
 fn from_sep(held: &[u8], a: usize, b: usize, mark: usize) -> Sought
-    ensures { λ r. ⌜ r ≡ gathered (length (now (held .entry))) (a ∷ b ∷ after (now (held .entry)) mark) ⌝ }
+    ensures { result ≡ gathered (length held.now) (a ∷ b ∷ after held.now mark) }
 {
     let f = lines::find_line(held, mark);
     match f {
@@ -107,7 +111,7 @@ fn from_sep(held: &[u8], a: usize, b: usize, mark: usize) -> Sought
 }
 
 fn from_qual(held: &[u8], a: usize, b: usize, c: usize, mark: usize) -> Sought
-    ensures { λ r. ⌜ r ≡ gathered (length (now (held .entry))) (a ∷ b ∷ c ∷ after (now (held .entry)) mark) ⌝ }
+    ensures { result ≡ gathered (length held.now) (a ∷ b ∷ c ∷ after held.now mark) }
 {
     let f = lines::find_line(held, mark);
     match f {
@@ -124,22 +128,22 @@ fn from_qual(held: &[u8], a: usize, b: usize, c: usize, mark: usize) -> Sought
 
 // The difference, or 0.
 pub fn less(a: usize, b: usize) -> usize
-    ensures { λ r. ⌜ r ≡ a - b ⌝ }
+    ensures { result ≡ a - b }
 {
     if b <= a { a - b } else { 0 }
 }
 
 // The byte at a place, or 0 past the end.
 fn byte_at(s: &[u8], i: usize) -> u8
-    ensures { λ r. ⌜ r ≡ byteAt (now (s .entry)) i ⌝ }
+    ensures { result ≡ byte_at s.now i }
 {
     if i < s.len() { s[i] } else { 0 }
 }
 
 // The bytes from `from` up to `to`, as far as there are any, after `trim_cr`.
 fn line(s: &[u8], from: usize, to: usize) -> &[u8]
-    ensures bytes { λ r. ⌜ now r ≡ trimCr (slice from to (now (s .entry))) ⌝ }
-    ensures place { λ r. ⌜ (from ≤ to → to ≤ length (now (s .entry)) → ptr r ≡ (ptr (s .entry) .0, from + ptr (s .entry) .1)) ⌝ }
+    ensures bytes { result.now ≡ trim_cr (slice from to s.now) }
+    ensures place { from ≤ to → to ≤ length s.now → result.ref_ptr ≡ (s.entry.ref_ptr.0, from + s.entry.ref_ptr.1) }
 {
     let e = lines::least(to, s.len());
     if e < from {
@@ -150,7 +154,7 @@ fn line(s: &[u8], from: usize, to: usize) -> &[u8]
 
 // How many bytes of a head are its id.
 pub fn id_length(head: &[u8]) -> usize
-    ensures { λ r. ⌜ r ≡ idLength (now (head .entry)) ⌝ }
+    ensures { result ≡ id_length head.now }
 {
     let mut i = 0;
     while i < head.len() {
@@ -164,7 +168,7 @@ pub fn id_length(head: &[u8]) -> usize
 
 // The id of an error: present if the first line is longer than its LF.
 pub fn error_id(window: &[u8], start: usize, seq: usize) -> Range
-    ensures { λ r. ⌜ r ≡ rangeOf (errorId (now (window .entry)) start seq) ⌝ }
+    ensures { result ≡ range_of (error_id window.now start seq) }
 {
     if less(seq, start) <= 1 {
         return Range::Absent;
@@ -178,7 +182,7 @@ pub fn error_id(window: &[u8], start: usize, seq: usize) -> Range
 impl Record {
     // The raw lengths agree, each counted with its line end.
     fn lengths_agree(self, window: &[u8]) -> bool
-        ensures { λ r. ⌜ r ≡ lengthsAgree (now (window .entry)) (fiveOf self) ⌝ }
+        ensures { result ≡ lengths_agree window.now (five_of self) }
     {
         let m = less(self.sep, self.seq);
         let n = less(self.end, self.qual);
@@ -189,8 +193,9 @@ impl Record {
     }
 
     // The test of a record, in document 01's order.
+    #[tactic(auto, using(crate::proofs::Laws::check_start, crate::proofs::Laws::check_plus, crate::proofs::Laws::check_good, crate::proofs::Laws::check_lengths))]
     pub fn validate(self, window: &[u8]) -> Check
-        ensures { λ r. ⌜ r ≡ checkOf (validate (now (window .entry)) (fiveOf self)) ⌝ }
+        ensures { result ≡ check_of (validate window.now (five_of self)) }
     {
         let start = self.start;
         let seq = self.seq;
@@ -213,7 +218,7 @@ impl Record {
 
     // The view test: the five numbers are those of a record within n bytes.
     pub fn fits(self, n: usize) -> bool
-        ensures { λ r. ⌜ r ≡ viewTest (fiveOf self) n ⌝ }
+        ensures { result ≡ view_test (five_of self) n }
     {
         (2 <= less(self.seq, self.start))
             & (self.seq < self.sep)
@@ -224,7 +229,7 @@ impl Record {
 
     // The head line without `@`.
     pub fn head<'a>(self, window: &'a [u8]) -> &'a [u8]
-        ensures { λ r. ⌜ Shows (window .entry) (headView (now (window .entry)) (fiveOf self)) r ⌝ }
+        ensures { Shows window.entry (head_view window.now (five_of self)) result }
     {
         if !self.fits(window.len()) {
             return &window[..0];
@@ -236,7 +241,7 @@ impl Record {
 
     // The sequence line.
     pub fn seq<'a>(self, window: &'a [u8]) -> &'a [u8]
-        ensures { λ r. ⌜ Shows (window .entry) (seqView (now (window .entry)) (fiveOf self)) r ⌝ }
+        ensures { Shows window.entry (seq_view window.now (five_of self)) result }
     {
         if !self.fits(window.len()) {
             return &window[..0];
@@ -248,7 +253,7 @@ impl Record {
 
     // The quality line.
     pub fn qual<'a>(self, window: &'a [u8]) -> &'a [u8]
-        ensures { λ r. ⌜ Shows (window .entry) (qualView (now (window .entry)) (fiveOf self)) r ⌝ }
+        ensures { Shows window.entry (qual_view window.now (five_of self)) result }
     {
         if !self.fits(window.len()) {
             return &window[..0];
@@ -260,7 +265,7 @@ impl Record {
 
     // The head up to its first space.
     pub fn id_bytes<'a>(self, window: &'a [u8]) -> &'a [u8]
-        ensures { λ r. ⌜ Shows (window .entry) (idView (now (window .entry)) (fiveOf self)) r ⌝ }
+        ensures { Shows window.entry (id_view window.now (five_of self)) result }
     {
         let h = self.head(window);
         let n = id_length(h);
@@ -269,7 +274,7 @@ impl Record {
 
     // The head has a description, though it may be empty.
     pub fn has_desc(self, window: &[u8]) -> bool
-        ensures { λ r. ⌜ r ≡ hasDesc (now (window .entry)) (fiveOf self) ⌝ }
+        ensures { result ≡ has_desc window.now (five_of self) }
     {
         let h = self.head(window);
         id_length(h) < h.len()
@@ -277,7 +282,7 @@ impl Record {
 
     // What follows the first space of the head; where there is none, the empty part at the window's front.
     pub fn desc_bytes<'a>(self, window: &'a [u8]) -> &'a [u8]
-        ensures { λ r. ⌜ Shows (window .entry) (descView (now (window .entry)) (fiveOf self)) r ⌝ }
+        ensures { Shows window.entry (desc_view window.now (five_of self)) result }
     {
         let h = self.head(window);
         let n = id_length(h);

@@ -1,17 +1,14 @@
 // Drives the reader over a row's input, and tells each answer that is no request.
+ghost use Rattle.std.specs.Prelude.{◌≤◌};
+
 use crate::rows::Row;
 use crate::telling;
-use reader::Answer;
-use reader::Byte;
-use reader::Line;
-use reader::Opened;
-use reader::Position;
-use reader::Reader;
+use reader::{Answer, Byte, Line, Opened, Position, Reader};
 use record::Record;
 use sets::Reply;
-ghost use Prim.Native.Nat.{_≤_};
 
 // What a run has come to.
+#[derive(Clone, Copy)]
 struct Run {
     reader: Reader,
     closed: bool, // the closing answer is told
@@ -20,28 +17,28 @@ struct Run {
 // More turns than any row takes: each brings input or tells an answer.
 const TURNS: u32 = 512;
 
-pub fn replay(row: Row, input: &[u8]) {
+pub fn replay(rt: &impl Print, row: Row, input: &[u8]) {
     let mut window = [0u8; 512];
     let size = lines::least(row.window, 512);
-    through(row, input, &mut window[..size]);
+    through(rt, row, input, &mut window[..size]);
 }
 
-fn through(row: Row, input: &[u8], window: &mut [u8]) {
+fn through(rt: &impl Print, row: Row, input: &[u8], window: &mut [u8]) {
     let Opened::Fresh(reader) = Reader::open(window.len()) else {
         return;
     };
     if row.kind == b's' {
-        sets(reader, row.a, input, window);
+        sets(rt, reader, row.a, input, window);
         return;
     }
-    let closed = answers(reader, row.chunk, row.kind == b'n', input, window);
+    let closed = answers(rt, reader, row.chunk, row.kind == b'n', input, window);
     if row.kind == b'k' {
-        sought(closed, row, input, window);
+        sought(rt, closed, row, input, window);
     }
 }
 
 // A seek, once the reading is closed, and the answers from there on.
-fn sought(reader: Reader, row: Row, input: &[u8], window: &mut [u8]) {
+fn sought(rt: &impl Print, reader: Reader, row: Row, input: &[u8], window: &mut [u8]) {
     let m = reader.seek(
         window,
         Position {
@@ -50,29 +47,41 @@ fn sought(reader: Reader, row: Row, input: &[u8], window: &mut [u8]) {
         },
     );
     let state = m.state;
-    telling::text(b"seek");
-    telling::position(state);
-    answers(state, row.chunk, false, input, window);
+    telling::text(rt, b"seek");
+    telling::position(rt, state);
+    answers(rt, state, row.chunk, false, input, window);
 }
 
-fn answers(reader: Reader, chunk: usize, writers: bool, input: &[u8], window: &mut [u8]) -> Reader {
+fn answers(
+    rt: &impl Print,
+    reader: Reader,
+    chunk: usize,
+    writers: bool,
+    input: &[u8],
+    window: &mut [u8],
+) -> Reader {
     let mut run = Run {
         reader,
         closed: false,
     };
-    let mut turns = 0;
-    while turns < TURNS {
+    for _ in 0..TURNS {
         if run.closed {
             return run.reader;
         }
-        run = turn(run, chunk, writers, input, window);
-        turns += 1;
+        run = turn(rt, run, chunk, writers, input, window);
     }
-    telling::text(b"no closing answer\n");
+    telling::text(rt, b"no closing answer\n");
     run.reader
 }
 
-fn turn(run: Run, chunk: usize, writers: bool, input: &[u8], window: &mut [u8]) -> Run {
+fn turn(
+    rt: &impl Print,
+    run: Run,
+    chunk: usize,
+    writers: bool,
+    input: &[u8],
+    window: &mut [u8],
+) -> Run {
     let reader = run.reader;
     let n = reader.next(window);
     let answer = n.answer;
@@ -84,10 +93,10 @@ fn turn(run: Run, chunk: usize, writers: bool, input: &[u8], window: &mut [u8]) 
             closed: run.closed,
         };
     }
-    telling::tell(answer, window);
-    telling::position(state);
+    telling::tell(rt, answer, window);
+    telling::position(rt, state);
     if writers {
-        write(answer, window);
+        write(rt, answer, window);
     }
     Run {
         reader: state,
@@ -95,9 +104,9 @@ fn turn(run: Run, chunk: usize, writers: bool, input: &[u8], window: &mut [u8]) 
     }
 }
 
-fn write(answer: Answer, window: &[u8]) {
+fn write(rt: &impl Print, answer: Answer, window: &[u8]) {
     if let Answer::Record(r, _) = answer {
-        telling::written(r, window);
+        telling::written(rt, r, window);
     }
 }
 
@@ -149,55 +158,51 @@ fn chunk_at(s: &[u8], at: usize, n: usize) -> &[u8] {
 }
 
 // All of the input is fed and its end noted; then sets of at most so many records.
-fn sets(reader: Reader, wanted: usize, input: &[u8], window: &mut [u8]) {
+fn sets(rt: &impl Print, reader: Reader, wanted: usize, input: &[u8], window: &mut [u8]) {
     let f = reader.feed(window, input);
     let whole = f.state;
     let e = whole.finish(window);
     let mut state = e.state;
     let mut table = [0usize; 80];
-    let mut turns = 0;
-    while turns < TURNS {
+    for _ in 0..TURNS {
         let x = sets::read_record_set_exact(state, window, &mut table, wanted);
         state = x.state;
         let a = x.answer;
-        if !listed(a, &table, window) {
-            telling::position(state);
+        if !listed(rt, a, &table, window) {
+            telling::position(rt, state);
             return;
         }
-        telling::position(state);
-        turns += 1;
+        telling::position(rt, state);
     }
 }
 
 // Tells a set, or the answer that is none.
-fn listed(answer: Reply, table: &[usize], window: &[u8]) -> bool {
+fn listed(rt: &impl Print, answer: Reply, table: &[usize], window: &[u8]) -> bool {
     match answer {
         Reply::Count(k) => {
-            entries(lines::least(k, 16), table, window);
-            telling::value(b"set of ", k as u64);
+            entries(rt, lines::least(k, 16), table, window);
+            telling::value(rt, b"set of ", k as u64);
             true
         }
         Reply::Other(a) => {
-            telling::tell(a, window);
+            telling::tell(rt, a, window);
             false
         }
         Reply::Refused(k) => {
-            telling::value(b"refused ", k as u64);
+            telling::value(rt, b"refused ", k as u64);
             false
         }
     }
 }
 
 // All of the input is in the window, so that a place there is an offset in the input.
-fn entries(k: usize, table: &[usize], window: &[u8]) {
-    let mut i = 0;
-    while i < k {
-        entry(table, i, window);
-        i += 1;
+fn entries(rt: &impl Print, k: usize, table: &[usize], window: &[u8]) {
+    for i in 0..k {
+        entry(rt, table, i, window);
     }
 }
 
-fn entry(table: &[usize], i: usize, window: &[u8]) {
+fn entry(rt: &impl Print, table: &[usize], i: usize, window: &[u8]) {
     if 16 <= i {
         return;
     }
@@ -213,6 +218,6 @@ fn entry(table: &[usize], i: usize, window: &[u8]) {
         qual: table[at + 3],
         end: table[at + 4],
     };
-    telling::found(r, Byte(start as u64), window);
-    telling::text(b"\n");
+    telling::found(rt, r, Byte(start as u64), window);
+    telling::text(rt, b"\n");
 }

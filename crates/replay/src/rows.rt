@@ -1,8 +1,9 @@
 // Rows of the list, as text: a letter, the window's length, the chunks' length, two numbers, and the input in hexadecimal digits.
 
-ghost use mathlib.Core.Path.{_≡_};
+ghost use Rattle.std.specs.Prelude.{◌≡◌};
 
 // What stands in a row before its input, and where the input starts.
+#[derive(Clone, Copy)]
 pub struct Row {
     pub kind: u8, // n: by next; k: a seek to the line a and the byte b, once the reading is closed; s: by sets of at most a records
     pub window: usize,
@@ -13,12 +14,14 @@ pub struct Row {
 }
 
 // A number and where the text goes on.
+#[derive(Clone, Copy)]
 pub struct Number {
     pub value: usize,
     pub at: usize,
 }
 
 // How many bytes were put, and where the next row starts.
+#[derive(Clone, Copy)]
 pub struct Got {
     pub count: usize,
     pub at: usize,
@@ -50,7 +53,7 @@ fn numeral(s: &[u8], from: usize) -> Number {
 }
 
 fn wide(x: u8) -> usize
-    ensures { λ r. ⌜ r ≡ x ⌝ }
+    ensures { result ≡ x }
 {
     x as usize
 }

@@ -1,39 +1,39 @@
 -- The state behind a set: next goes on from it as it would behind the last record.
 -- Assumes nothing.
-use mathlib.Core.Path.{_≡_, refl, sym, ap, _∙_}
-use mathlib.Core.Bool.{Bool, true, false, _||_, true≢false}
-use mathlib.Core.List.{List, [], _∷_, map}
-use Prim.Native.Nat.{ℕ, zero, suc, _+_, _-_, _≤_, min}
+use mathlib.Core.Path.{◌≡◌, refl, sym, ap, ◌∙◌}
+use mathlib.Core.Bool.{Bool, true, false, ◌||◌, true≢false}
+use mathlib.Core.List.{List, [], ◌∷◌, map}
+use Prim.Native.Nat.{ℕ, zero, suc, ◌+◌, ◌≤◌, min}
 use native.Mathlib.Omega.{arith}
 use lib.ListN.{length, take}
 use lib.Dec.{leb, eqb}
-use Rattle·reading.specs.Bytes.{pieces, allBlank}
-use Rattle·reading.specs.Answer as reading
-use Rattle·reading.specs.Reading.{Verdict, good, badStart, badSeparator, badLengths, Step, onward, unended, closing, judged, validate, rest, recordOf, complete, tailBy, tailRule, stepWith}
-use Rattle·record.specs.declared.Noted.{Noted}
-use Rattle·record.specs.declared.Noted.the-variants.{Zero, One, Two, Three, Four}
-use Rattle·record.specs.declared.Record.{Record}
-use Rattle·record.specs.Noted.{listed}
-use Rattle·reader.specs.declared.Byte.{Byte}
-use Rattle·reader.specs.declared.Reader.{Reader}
-use Rattle·reader.specs.declared.Answer.{Answer}
-use Rattle·reader.specs.declared.Decided.{Decided}
-use Rattle·reader.specs.declared.Answer.the-variants.{End, Refused}
-use Rattle·reader.specs.State.{mostLines, positionOf, own}
-use Rattle·reader.specs.Next.{answerOf, settledBy, decidedBy, decidedOf, onwardBy, onwardOf, searchedOf, seekingOf, nextBy, nextOf}
-use Rattle·reader.specs.declared.Next.{Next}
-use Rattle·reader.proofs.Owning.{own-facts}
-use Rattle·reader.proofs.Nexting.{next-closed}
-use Rattle·sets·specs.specs.declared.Row.the-variants.{Of, No}
-use Rattle·sets·specs.specs.declared.Reply.the-variants.{Count, Other}
-use Rattle·sets·specs.specs.Sets.{rowIn, nextStart, placed, afterOf, setBy, setOf, recordsOf}
-use Rattle·sets·specs.specs.Calls.{answersOf, stateAfter}
-use Rattle·sets·proofs.proofs.Sounds.{next-sound, record-own}
-use Rattle·sets·proofs.proofs.Owned.{next-window, next-own, after-own}
-use Rattle·sets·proofs.proofs.Calls.{none-next, count-gives}
+use Rattle.reading.specs.Bytes.{pieces, all_blank}
+use Rattle.reading.specs.Answer as reading
+use Rattle.reading.specs.Reading.{Verdict, good, bad_start, bad_separator, bad_lengths, Step, onward, unended, closing, judged, validate, rest, record_of, complete, tail_by, tail_rule, step_with}
+use Rattle.record.specs.declared.Noted.{Noted}
+use Rattle.record.specs.declared.Noted.TheVariants.{Zero, One, Two, Three, Four}
+use Rattle.record.specs.declared.Record.{Record}
+use Rattle.record.specs.Noted.{listed}
+use Rattle.reader.specs.declared.Byte.{Byte}
+use Rattle.reader.specs.declared.Reader.{Reader}
+use Rattle.reader.specs.declared.Answer.{Answer}
+use Rattle.reader.specs.declared.Decided.{Decided}
+use Rattle.reader.specs.declared.Answer.TheVariants.{End, Refused}
+use Rattle.reader.specs.State.{most_lines, position_of, own}
+use Rattle.reader.specs.Next.{answer_of, settled_by, decided_by, decided_of, onward_by, onward_of, searched_of, seeking_of, next_by, next_of}
+use Rattle.reader.specs.declared.Next.{Next}
+use Rattle.reader.proofs.Owning.{own_facts}
+use Rattle.reader.proofs.Nexting.{next_closed}
+use Rattle.sets.specs.declared.Row.TheVariants.{Of, No}
+use Rattle.sets.specs.declared.Reply.TheVariants.{Count, Other}
+use Rattle.sets.specs.Sets.{row_in, next_start, placed, after_of, set_by, set_of, records_of}
+use Rattle.sets.specs.Calls.{answers_of, state_after}
+use Rattle.sets.proofs.Sounds.{next_sound, record_own}
+use Rattle.sets.proofs.Owned.{next_window, next_own, after_own}
+use Rattle.sets.proofs.Calls.{none_next, count_gives}
 
 never : {A : Type 0} (r : Record) → No ≡ Of r → A
-never r e = let z : _≡_ {A = ℕ} 0 1 = cc in absurd (omega arith)
+never r e = let z : ◌≡◌ {A = ℕ} 0 1 = cc in absurd (omega arith)
 
 -- ---- how next leaves the state whose record it gave
 
@@ -47,161 +47,161 @@ Left closed (Two a b) = ⊥
 
 module _ (H : List ℕ) (W p L : ℕ) (b : Byte) (end : Bool) (r : Record) where
   -- a good verdict leaves the step as it is
-  whole : (s : Step) (v : Verdict) → rowIn (settledBy b (judged L s v) .answer) ≡ Of r → settledBy b (judged L s v) .closed ≡ settledBy b s .closed
+  whole : (s : Step) (v : Verdict) → row_in (settled_by b (judged L s v)).answer ≡ Of r → (settled_by b (judged L s v)).closed ≡ (settled_by b s).closed
   whole s good e = refl
-  whole s (badStart c) e = never r e
-  whole s (badSeparator c i) e = never r e
-  whole s (badLengths n m i) e = never r e
+  whole s (bad_start c) e = never r e
+  whole s (bad_separator c i) e = never r e
+  whole s (bad_lengths n m i) e = never r e
 
   -- with fewer than three line ends there is no record
-  few : (es : List ℕ) (blank : Bool) → rowIn (settledBy b (tailBy H p L es false blank) .answer) ≡ Of r → ⊥
+  few : (es : List ℕ) (blank : Bool) → row_in (settled_by b (tail_by H p L es false blank)).answer ≡ Of r → ⊥
   few es true e = never r e
   few es false e = never r e
 
   -- with fewer than four line ends a record comes by the tail rule
-  short : (es : List ℕ) → leb 4 (length es) ≡ false → rowIn (decidedBy H W p L b es (leb W (length (rest H p)) || end) .answer) ≡ Of r
-      → decidedBy H W p L b es (leb W (length (rest H p)) || end) ≡ settledBy b (tailRule H p L es)
+  short : (es : List ℕ) → leb 4 (length es) ≡ false → row_in (decided_by H W p L b es (leb W (length (rest H p)) || end)).answer ≡ Of r
+      → decided_by H W p L b es (leb W (length (rest H p)) || end) ≡ settled_by b (tail_rule H p L es)
   short es l = go (leb W (length (rest H p))) refl end
     where
-      go : (full : Bool) → leb W (length (rest H p)) ≡ full → (f : Bool) → rowIn (decidedBy H W p L b es (full || f) .answer) ≡ Of r → decidedBy H W p L b es (full || f) ≡ settledBy b (tailRule H p L es)
+      go : (full : Bool) → leb W (length (rest H p)) ≡ full → (f : Bool) → row_in (decided_by H W p L b es (full || f)).answer ≡ Of r → decided_by H W p L b es (full || f) ≡ settled_by b (tail_rule H p L es)
       go true q f e = never r (rw (l, q) at e)
       go false q true e = rw (l, q)
       go false q false e = never r e
 
-  decided-left : (e : Noted) → rowIn (decidedOf H W p L b end e .answer) ≡ Of r → Left (decidedOf H W p L b end e .closed) e
-  unfolding decidedOf complete tailRule
-  decided-left (Four a c d x) e = let y = recordOf p (a ∷ c ∷ d ∷ x ∷ []) x in whole (onward y) (validate H y) e
-  decided-left (Three a c d) e =
+  decided_left : (e : Noted) → row_in (decided_of H W p L b end e).answer ≡ Of r → Left (decided_of H W p L b end e).closed e
+  unfolding decided_of complete tail_rule
+  decided_left (Four a c d x) e = let y = record_of p (a ∷ c ∷ d ∷ x ∷ []) x in whole (onward y) (validate H y) e
+  decided_left (Three a c d) e =
       let es : List ℕ = a ∷ c ∷ d ∷ [] in
-      let y = recordOf p es (length H) in
+      let y = record_of p es (length H) in
       let q = short es refl e in
-      ap (λ (k : Decided). k .closed) q ∙ whole (unended y) (validate H y) (sym (ap (λ (k : Decided). rowIn (k .answer)) q) ∙ e)
-  decided-left Zero e = few [] (allBlank (pieces H p [])) (sym (ap (λ (k : Decided). rowIn (k .answer)) (short [] refl e)) ∙ e)
-  decided-left (One a) e = few (a ∷ []) (allBlank (pieces H p (a ∷ []))) (sym (ap (λ (k : Decided). rowIn (k .answer)) (short (a ∷ []) refl e)) ∙ e)
-  decided-left (Two a c) e = few (a ∷ c ∷ []) (allBlank (pieces H p (a ∷ c ∷ []))) (sym (ap (λ (k : Decided). rowIn (k .answer)) (short (a ∷ c ∷ []) refl e)) ∙ e)
+      ap (λ (k : Decided). k.closed) q ∙ whole (unended y) (validate H y) (sym (ap (λ (k : Decided). row_in k.answer) q) ∙ e)
+  decided_left Zero e = few [] (all_blank (pieces H p [])) (sym (ap (λ (k : Decided). row_in k.answer) (short [] refl e)) ∙ e)
+  decided_left (One a) e = few (a ∷ []) (all_blank (pieces H p (a ∷ []))) (sym (ap (λ (k : Decided). row_in k.answer) (short (a ∷ []) refl e)) ∙ e)
+  decided_left (Two a c) e = few (a ∷ c ∷ []) (all_blank (pieces H p (a ∷ c ∷ []))) (sym (ap (λ (k : Decided). row_in k.answer) (short (a ∷ c ∷ []) refl e)) ∙ e)
 
-next-left : (s : Reader) (w : List ℕ) (r : Record) → rowIn (nextOf s w .answer) ≡ Of r → Left (nextOf s w .state .closed) (nextOf s w .state .noted)
-unfolding nextOf seekingOf
-next-left s w r = go (own s (length w)) (s .closed)
+next_left : (s : Reader) (w : List ℕ) (r : Record) → row_in (next_of s w).answer ≡ Of r → Left (next_of s w).state.closed (next_of s w).state.noted
+unfolding next_of seeking_of
+next_left s w r = go (own s (length w)) s.closed
   where
-    go : (o closed : Bool) → rowIn (nextBy s w o closed .answer) ≡ Of r → Left (nextBy s w o closed .state .closed) (nextBy s w o closed .state .noted)
+    go : (o closed : Bool) → row_in (next_by s w o closed).answer ≡ Of r → Left (next_by s w o closed).state.closed (next_by s w o closed).state.noted
     go false closed e = never r e
     go true true e = never r e
     go true false e =
-        let u = onwardOf s in
-        decided-left (take (u .fill) w) (u .window) (u .start) (u .line .0) (u .byte) (u .ended) r (searchedOf u w .noted) e
+        let u = onward_of s in
+        decided_left (take u.fill w) u.window u.start u.line.0 u.byte u.ended r (searched_of u w).noted e
 
 -- ---- next behind a set
 
 -- behind a record, next answers the same from the state that a set leaves
-then-next : (t : Reader) (w : List ℕ) → own t (length w) ≡ true → own (afterOf t) (length w) ≡ true → Left (t .closed) (t .noted) → nextOf (afterOf t) w .answer ≡ nextOf t w .answer
-unfolding nextOf seekingOf
-then-next t w o a l = rw (o, a) (go (t .closed) l)
+then_next : (t : Reader) (w : List ℕ) → own t (length w) ≡ true → own (after_of t) (length w) ≡ true → Left t.closed t.noted → (next_of (after_of t) w).answer ≡ (next_of t w).answer
+unfolding next_of seeking_of
+then_next t w o a l = rw (o, a) (go t.closed l)
   where
-    by : (e : Noted) → Left false e → seekingOf (placed t (nextStart (t .fill) e)) w .answer ≡ seekingOf (onwardBy t e) w .answer
+    by : (e : Noted) → Left false e → (seeking_of (placed t (next_start t.fill e)) w).answer ≡ (seeking_of (onward_by t e) w).answer
     by (Four a b c d) l = refl
     by (Three a b c) l = absurd (true≢false (sym l))
     by Zero l = absurd l
     by (One a) l = absurd l
     by (Two a b) l = absurd l
 
-    go : (closed : Bool) → Left closed (t .noted) → nextBy (afterOf t) w true closed .answer ≡ nextBy t w true closed .answer
+    go : (closed : Bool) → Left closed t.noted → (next_by (after_of t) w true closed).answer ≡ (next_by t w true closed).answer
     go true l = refl
-    go false l = by (t .noted) l
+    go false l = by t.noted l
 
 -- behind a record that closed the reading is the end of the held bytes
-at-fill : (fill : ℕ) (closed : Bool) (e : Noted) → closed ≡ true → Left closed e → nextStart fill e ≡ fill
-at-fill fill closed (Four a b c d) q l = absurd (true≢false (sym q ∙ l))
-at-fill fill closed (Three a b c) q l = refl
-at-fill fill closed Zero q l = absurd l
-at-fill fill closed (One a) q l = absurd l
-at-fill fill closed (Two a b) q l = absurd l
+at_fill : (fill : ℕ) (closed : Bool) (e : Noted) → closed ≡ true → Left closed e → next_start fill e ≡ fill
+at_fill fill closed (Four a b c d) q l = absurd (true≢false (sym q ∙ l))
+at_fill fill closed (Three a b c) q l = refl
+at_fill fill closed Zero q l = absurd l
+at_fill fill closed (One a) q l = absurd l
+at_fill fill closed (Two a b) q l = absurd l
 
 -- what holds behind every record holds after calls of next that all gave records
-after-records : (w : List ℕ) (P : Reader → Type 0) → ((u : Reader) (r : Record) → rowIn (nextOf u w .answer) ≡ Of r → P (nextOf u w .state))
-    → (k : ℕ) (s : Reader) (rs : List Record) → map rowIn (answersOf (suc k) s w) ≡ map Of rs → P (stateAfter (suc k) s w)
-unfolding answersOf stateAfter
-after-records w P f k s [] e = let z : _≡_ {A = ℕ} 0 1 = cc in absurd (omega arith)
-after-records w P f zero s (r ∷ rs) e = f s r (cc)
-after-records w P f (suc k) s (r ∷ rs) e = after-records w P f k (nextOf s w .state) rs (cc)
+after_records : (w : List ℕ) (P : Reader → Type 0) → ((u : Reader) (r : Record) → row_in (next_of u w).answer ≡ Of r → P (next_of u w).state)
+    → (k : ℕ) (s : Reader) (rs : List Record) → map row_in (answers_of (suc k) s w) ≡ map Of rs → P (state_after (suc k) s w)
+unfolding answers_of state_after
+after_records w P f k s [] e = let z : ◌≡◌ {A = ℕ} 0 1 = cc in absurd (omega arith)
+after_records w P f zero s (r ∷ rs) e = f s r (cc)
+after_records w P f (suc k) s (r ∷ rs) e = after_records w P f k (next_of s w).state rs (cc)
 
 -- behind a record, with a line that is low enough: the state is own, and next answers as it would have
 record Follows (w : List ℕ) (t : Reader) : Type 0 where
-  pub own : own (afterOf t) (length w) ≡ true
-  pub next : nextOf (afterOf t) w .answer ≡ nextOf t w .answer
+  pub own : own (after_of t) (length w) ≡ true
+  pub next : (next_of (after_of t) w).answer ≡ (next_of t w).answer
 
-follows : (w : List ℕ) (u : Reader) (r : Record) → rowIn (nextOf u w .answer) ≡ Of r → nextOf u w .state .line .0 + 4 ≤ mostLines → Follows w (nextOf u w .state)
+follows : (w : List ℕ) (u : Reader) (r : Record) → row_in (next_of u w).answer ≡ Of r → (next_of u w).state.line.0 + 4 ≤ most_lines → Follows w (next_of u w).state
 follows w u r e h =
-    let o = record-own u w r e in
-    let a = after-own (nextOf u w .state) (length w) (next-sound u w o) (own-facts u (length w) o .opened ∙ sym (next-window u w)) h in
-    record { own = a; next = then-next (nextOf u w .state) w (next-own u w o (omega arith)) a (next-left u w r e) }
+    let o = record_own u w r e in
+    let a = after_own (next_of u w).state (length w) (next_sound u w o) ((own_facts u (length w) o).opened ∙ sym (next_window u w)) h in
+    record { own = a; next = then_next (next_of u w).state w (next_own u w o (omega arith)) a (next_left u w r e) }
 
 -- of an own state next answers no refusal
-unrefused : (s : Reader) (w : List ℕ) (c : ℕ) → own s (length w) ≡ true → nextOf s w .answer ≡ Refused c → ⊥
-unfolding nextOf seekingOf decidedOf
-unrefused s w c o e = go (s .closed) (rw o at e)
+unrefused : (s : Reader) (w : List ℕ) (c : ℕ) → own s (length w) ≡ true → (next_of s w).answer ≡ Refused c → ⊥
+unfolding next_of seeking_of decided_of
+unrefused s w c o e = go s.closed (rw o at e)
   where
-    by : (b : Byte) (a : reading.Answer) → answerOf b a ≡ Refused c → _≡_ {A = ℕ} 0 1
+    by : (b : Byte) (a : reading.Answer) → answer_of b a ≡ Refused c → ◌≡◌ {A = ℕ} 0 1
     by b (reading.found r) e = cc
-    by b (reading.windowLimit L p) e = cc
-    by b (reading.invalidStart x L) e = cc
-    by b (reading.invalidSeparator x L i) e = cc
-    by b (reading.unequalLengths n m L i) e = cc
-    by b (reading.unexpectedEnd L i) e = cc
+    by b (reading.window_limit L p) e = cc
+    by b (reading.invalid_start x L) e = cc
+    by b (reading.invalid_separator x L i) e = cc
+    by b (reading.unequal_lengths n m L i) e = cc
+    by b (reading.unexpected_end L i) e = cc
     by b reading.ended e = cc
 
-    step : (b : Byte) (x : Step) → settledBy b x .answer ≡ Refused c → _≡_ {A = ℕ} 0 1
+    step : (b : Byte) (x : Step) → (settled_by b x).answer ≡ Refused c → ◌≡◌ {A = ℕ} 0 1
     step b (onward r) e = by b (reading.found r) e
     step b (unended r) e = by b (reading.found r) e
     step b (closing a) e = by b a e
 
-    decided : (H : List ℕ) (W p L : ℕ) (b : Byte) (es : List ℕ) (t : Bool) → decidedBy H W p L b es t .answer ≡ Refused c → _≡_ {A = ℕ} 0 1
-    decided H W p L b es true e = step b (stepWith H W p L es) e
+    decided : (H : List ℕ) (W p L : ℕ) (b : Byte) (es : List ℕ) (t : Bool) → (decided_by H W p L b es t).answer ≡ Refused c → ◌≡◌ {A = ℕ} 0 1
+    decided H W p L b es true e = step b (step_with H W p L es) e
     decided H W p L b es false e = cc
 
-    go : (closed : Bool) → nextBy s w true closed .answer ≡ Refused c → ⊥
-    go true e = let z : _≡_ {A = ℕ} 0 1 = cc in omega arith
+    go : (closed : Bool) → (next_by s w true closed).answer ≡ Refused c → ⊥
+    go true e = let z : ◌≡◌ {A = ℕ} 0 1 = cc in omega arith
     go false e =
-        let u = onwardOf s in
-        let es = listed (searchedOf u w .noted) in
-        let z = decided (take (u .fill) w) (u .window) (u .start) (u .line .0) (u .byte) es
-        (leb 4 (length es) || (leb (u .window) (length (rest (take (u .fill) w) (u .start))) || u .ended)) e in
+        let u = onward_of s in
+        let es = listed (searched_of u w).noted in
+        let z = decided (take u.fill w) u.window u.start u.line.0 u.byte es
+        (leb 4 (length es) || (leb u.window (length (rest (take u.fill w) u.start)) || u.ended)) e in
         omega arith
 
 module _ (s : Reader) (w : List ℕ) (room wanted : ℕ) where
   -- the state that a set call leaves is own, unless its line passes the highest, and next answers from it what it would have answered behind the records
-  pub set-follows : (k : ℕ) → setOf s w room wanted .answer ≡ Count k → setOf s w room wanted .state .line .0 ≤ mostLines
-      → (own (setOf s w room wanted .state) (length w) ≡ true) × (nextOf (setOf s w room wanted .state) w .answer ≡ nextOf (stateAfter k s w) w .answer)
-  set-follows zero e h = absurd (omega (arith, count-gives s w room wanted 0 e .0))
-  set-follows (suc k) e h =
-      let g = count-gives s w room wanted (suc k) e in
-      let q = g .2 in
-      let f = after-records w (λ t. t .line .0 + 4 ≤ mostLines → Follows w t) (follows w) k s (recordsOf s w room wanted) (g .1 .given) (rw q at h) in
-      (rw q (f .own), rw q (f .next))
+  pub set_follows : (k : ℕ) → (set_of s w room wanted).answer ≡ Count k → (set_of s w room wanted).state.line.0 ≤ most_lines
+      → (own (set_of s w room wanted).state (length w) ≡ true) × ((next_of (set_of s w room wanted).state w).answer ≡ (next_of (state_after k s w) w).answer)
+  set_follows zero e h = absurd (omega (arith, (count_gives s w room wanted 0 e).0))
+  set_follows (suc k) e h =
+      let g = count_gives s w room wanted (suc k) e in
+      let q = g.2 in
+      let f = after_records w (λ t. t.line.0 + 4 ≤ most_lines → Follows w t) (follows w) k s (records_of s w room wanted) g.1.given (rw q at h) in
+      (rw q f.own, rw q f.next)
 
   -- the state that a set call leaves is not waiting, and nothing of the following record counts as searched
-  pub count-unsearched : (k : ℕ) → setOf s w room wanted .answer ≡ Count k
-      → (setOf s w room wanted .state .waiting ≡ false) × (setOf s w room wanted .state .noted ≡ Zero) × (setOf s w room wanted .state .mark ≡ setOf s w room wanted .state .start)
-  count-unsearched k e = rw (count-gives s w room wanted k e .2) (refl, refl, refl)
+  pub count_unsearched : (k : ℕ) → (set_of s w room wanted).answer ≡ Count k
+      → ((set_of s w room wanted).state.waiting ≡ false) × ((set_of s w room wanted).state.noted ≡ Zero) × ((set_of s w room wanted).state.mark ≡ (set_of s w room wanted).state.start)
+  count_unsearched k e = rw (count_gives s w room wanted k e).2 (refl, refl, refl)
 
   -- after a record with no final LF: the position is four lines on and at the end of the held bytes, and a following End keeps it
-  pub unended-keeps : (k : ℕ) → setOf s w room wanted .answer ≡ Count k → setOf s w room wanted .state .closed ≡ true → setOf s w room wanted .state .line .0 ≤ mostLines
-      → (let t = stateAfter k s w in setOf s w room wanted .state ≡ placed t (t .fill))
-      × (nextOf (setOf s w room wanted .state) w .answer ≡ End)
-      × (positionOf (nextOf (setOf s w room wanted .state) w .state) ≡ positionOf (setOf s w room wanted .state))
-  unended-keeps zero e c h = absurd (omega (arith, count-gives s w room wanted 0 e .0))
-  unended-keeps (suc k) e c h =
-      let g = count-gives s w room wanted (suc k) e in
-      let l = after-records w (λ t. Left (t .closed) (t .noted)) (λ u r q. next-left u w r q) k s (recordsOf s w room wanted) (g .1 .given) in
-      let n = next-closed (setOf s w room wanted .state) w (set-follows (suc k) e h .0) c in
-      let t = stateAfter (suc k) s w in
-      (g .2 ∙ ap (placed t) (at-fill (t .fill) (t .closed) (t .noted) (sym (ap (λ (r : Reader). r .closed) (g .2)) ∙ c) l), ap (λ (x : Next). x .answer) (sym n), ap (λ (x : Next). positionOf (x .state)) (sym n))
+  pub unended_keeps : (k : ℕ) → (set_of s w room wanted).answer ≡ Count k → (set_of s w room wanted).state.closed ≡ true → (set_of s w room wanted).state.line.0 ≤ most_lines
+      → (let t = state_after k s w in (set_of s w room wanted).state ≡ placed t t.fill)
+      × ((next_of (set_of s w room wanted).state w).answer ≡ End)
+      × (position_of (next_of (set_of s w room wanted).state w).state ≡ position_of (set_of s w room wanted).state)
+  unended_keeps zero e c h = absurd (omega (arith, (count_gives s w room wanted 0 e).0))
+  unended_keeps (suc k) e c h =
+      let g = count_gives s w room wanted (suc k) e in
+      let l = after_records w (λ t. Left t.closed t.noted) (λ u r q. next_left u w r q) k s (records_of s w room wanted) g.1.given in
+      let n = next_closed (set_of s w room wanted).state w (set_follows (suc k) e h).0 c in
+      let t = state_after (suc k) s w in
+      (g.2 ∙ ap (placed t) (at_fill t.fill t.closed t.noted (sym (ap (λ (r : Reader). r.closed) g.2) ∙ c) l), ap (λ (x : Next). x.answer) (sym n), ap (λ (x : Next). position_of x.state) (sym n))
 
   -- an answer of next that a set call hands on is no refusal
-  pub none-unrefused : (a : Answer) → setOf s w room wanted .answer ≡ Other a → (c : ℕ) → a ≡ Refused c → ⊥
-  unfolding setOf
-  none-unrefused a e c f = let h = none-next s w room wanted a e .0 in unrefused s w c (go (own s (length w)) e) (sym h ∙ f)
+  pub none_unrefused : (a : Answer) → (set_of s w room wanted).answer ≡ Other a → (c : ℕ) → a ≡ Refused c → ⊥
+  unfolding set_of
+  none_unrefused a e c f = let h = (none_next s w room wanted a e).0 in unrefused s w c (go (own s (length w)) e) (sym h ∙ f)
     where
-      go : (o : Bool) → setBy (min wanted room) s w o (eqb (min wanted room) 0) .answer ≡ Other a → o ≡ true
+      go : (o : Bool) → (set_by (min wanted room) s w o (eqb (min wanted room) 0)).answer ≡ Other a → o ≡ true
       go true q = refl
-      go false q = let z : _≡_ {A = ℕ} 0 1 = cc in absurd (omega arith)
+      go false q = let z : ◌≡◌ {A = ℕ} 0 1 = cc in absurd (omega arith)

@@ -1,29 +1,26 @@
 -- The calls of next that a set call stands for.
 -- Assumes nothing.
-use Prim.Native.Nat.{ℕ, zero, suc, _≤_, _<_}
-use mathlib.Core.Path.{_≡_}
-use mathlib.Core.List.{List, [], _∷_, map}
-use lib.ListN.{length}
-use Rattle·record.specs.declared.Record.{Record}
-use Rattle·reader.specs.declared.Reader.{Reader}
-use Rattle·reader.specs.declared.Answer.{Answer}
-use Rattle·reader.specs.Next.{nextOf}
-use Rattle·sets·specs.specs.declared.Row.the-variants.{Of, No}
-use Rattle·sets·specs.specs.Sets.{rowIn}
+use Rattle.std.specs.Prelude.{ℕ, zero, suc, ◌≤◌, ◌<◌, ◌≡◌, List, [], ◌∷◌, map, length}
+use Rattle.record.specs.declared.Record.{Record}
+use Rattle.reader.specs.declared.Reader.{Reader}
+use Rattle.reader.specs.declared.Answer.{Answer}
+use Rattle.reader.specs.Next.{next_of}
+use Rattle.sets.specs.declared.Row.TheVariants.{Of, No}
+use Rattle.sets.specs.Sets.{row_in}
 
 -- the answers of n calls of next, one after the other
-unfoldable pub answersOf : ℕ → Reader → List ℕ → List Answer
-answersOf zero s w = []
-answersOf (suc n) s w = nextOf s w .answer ∷ answersOf n (nextOf s w .state) w
+unfoldable pub answers_of : ℕ → Reader → List ℕ → List Answer
+answers_of zero s w = []
+answers_of (suc n) s w = (next_of s w).answer ∷ answers_of n (next_of s w).state w
 
 -- the state after n calls of next
-unfoldable pub stateAfter : ℕ → Reader → List ℕ → Reader
-stateAfter zero s w = s
-stateAfter (suc n) s w = stateAfter n (nextOf s w .state) w
+unfoldable pub state_after : ℕ → Reader → List ℕ → Reader
+state_after zero s w = s
+state_after (suc n) s w = state_after n (next_of s w).state w
 
 -- k calls of next, at most n, give the records rs; where k is below n, one more call would give no record
 pub record Gives (n k : ℕ) (s : Reader) (w : List ℕ) (rs : List Record) : Type 0 where
   pub many : length rs ≡ k
   pub most : k ≤ n
-  pub given : map rowIn (answersOf k s w) ≡ map Of rs
-  pub stops : k < n → rowIn (nextOf (stateAfter k s w) w .answer) ≡ No
+  pub given : map row_in (answers_of k s w) ≡ map Of rs
+  pub stops : k < n → row_in (next_of (state_after k s w) w).answer ≡ No

@@ -1,90 +1,85 @@
 -- What the private helpers answer, and the facts that they are handed: steps on the way, which no public promise cites.
 -- Assumes nothing.
-use Prim.Native.Nat.{ℕ, _+_, _-_, _≤_, _<_, min}
-use mathlib.Core.Path.{_≡_}
-use mathlib.Core.Bool.{Bool, true, false}
-use mathlib.Core.List.{List, [], _∷_}
-use lib.ListN.{length}
-use lib.Dec.{ltb, eqb}
-use Rattle·record.specs.declared.Record.{Record}
-use Rattle·record.specs.Noted.{listed as notes}
-use Rattle·reader.specs.declared.Reader.{Reader}
-use Rattle·reader.specs.declared.Next.{Next}
-use Rattle·reader.specs.State.{Notes, mostBytes, mostLines, own}
-use Rattle·reader.specs.Next.{nextOf}
-use Rattle·sets·specs.specs.declared.Row.{Row}
-use Rattle·sets·specs.specs.declared.Row.the-variants.{Of, No}
-use Rattle·sets·specs.specs.declared.Reply.the-variants.{Count, Other, Refused}
-use Rattle·sets·specs.specs.declared.Listed.{Listed}
-use Rattle·sets·specs.specs.declared.Run.{Run}
-use Rattle·sets·specs.specs.Sets.{rowIn, collected, afterOf, listed}
+use Rattle.std.specs.Prelude.{ℕ, ◌+◌, ◌-◌, ◌≤◌, ◌<◌, min, ◌≡◌, Bool, true, false, List, [], ◌∷◌, length, ltb, eqb}
+use Rattle.record.specs.declared.Record.{Record}
+use Rattle.record.specs.Noted.{listed as notes}
+use Rattle.reader.specs.declared.Reader.{Reader}
+use Rattle.reader.specs.declared.Next.{Next}
+use Rattle.reader.specs.State.{Notes, most_bytes, most_lines, own}
+use Rattle.reader.specs.Next.{next_of}
+use Rattle.sets.specs.declared.Row.{Row}
+use Rattle.sets.specs.declared.Row.TheVariants.{Of, No}
+use Rattle.sets.specs.declared.Reply.TheVariants.{Count, Other, Refused}
+use Rattle.sets.specs.declared.Listed.{Listed}
+use Rattle.sets.specs.declared.Run.{Run}
+use Rattle.sets.specs.Sets.{row_in, collected, after_of, listed}
 
 -- a state that answered a record: as an own one, but that its line may be four lines above the highest
 pub record Sound (s : Reader) : Type 0 where
-  pub forward : s .start ≤ s .fill
-  pub inside : s .fill ≤ s .window
-  pub notes : Notes (s .start) (s .fill) (s .mark) (notes (s .noted))
-  pub behind : s .start ≤ s .byte .0
-  pub near : s .byte .0 + (s .fill - s .start) ≤ mostBytes
-  pub few : s .line .0 ≤ mostLines + 4
+  pub forward : s.start ≤ s.fill
+  pub inside : s.fill ≤ s.window
+  pub notes : Notes s.start s.fill s.mark (notes s.noted)
+  pub behind : s.start ≤ s.byte.0
+  pub near : s.byte.0 + (s.fill - s.start) ≤ most_bytes
+  pub few : s.line.0 ≤ most_lines + 4
 
-abbrev pub overOf : ℕ → Reader → Listed → Run
-overOf k s l =
+abbrev pub over_of : ℕ → Reader → Listed → Run
+over_of k s l =
     record { count = k; wanted = k; more = false; entry = record { start = 0; seq = 0; sep = 0; qual = 0; end = 0 }; state = s; out = l }
 
-abbrev pub stoppedOf : ℕ → Reader → Run
-stoppedOf k s = overOf k s (listed (afterOf s) (Count k))
+abbrev pub stopped_of : ℕ → Reader → Run
+stopped_of k s = over_of k s (listed (after_of s) (Count k))
 
-abbrev pub onwardOf : ℕ → ℕ → Next → Record → Run
-onwardOf k n x r = record { count = k; wanted = n; more = true; entry = r; state = x .state; out = listed (x .state) (Other (x .answer)) }
+abbrev pub onward_of : ℕ → ℕ → Next → Record → Run
+onward_of k n x r = record { count = k; wanted = n; more = true; entry = r; state = x.state; out = listed x.state (Other x.answer) }
 
-abbrev pub noneBy : Reader → ℕ → Next → Bool → Run
-noneBy s k x true = overOf 0 s (listed (x .state) (Other (x .answer)))
-noneBy s k x false = stoppedOf k s
+abbrev pub none_by : Reader → ℕ → Next → Bool → Run
+none_by s k x true = over_of 0 s (listed x.state (Other x.answer))
+none_by s k x false = stopped_of k s
 
-abbrev pub lookBy : Reader → ℕ → ℕ → Next → Row → Run
-lookBy s k n x (Of r) = onwardOf k n x r
-lookBy s k n x No = noneBy s k x (eqb k 0)
+abbrev pub look_by : Reader → ℕ → ℕ → Next → Row → Run
+look_by s k n x (Of r) = onward_of k n x r
+look_by s k n x No = none_by s k x (eqb k 0)
 
 -- what next answers, where k records of n are listed
-unfoldable pub lookOf : Reader → List ℕ → ℕ → ℕ → Run
-lookOf s w k n = lookBy s k n (nextOf s w) (rowIn (nextOf s w .answer))
+unfoldable pub look_of : Reader → List ℕ → ℕ → ℕ → Run
+look_of s w k n = look_by s k n (next_of s w) (row_in (next_of s w).answer)
 
-abbrev pub stepBy : Run → List ℕ → Bool → Run
-stepBy r w true = lookOf (r .state) w (r .count + 1) (r .wanted)
-stepBy r w false = stoppedOf (r .count + 1) (r .state)
+abbrev pub step_by : Run → List ℕ → Bool → Run
+step_by r w true = look_of r.state w (r.count + 1) r.wanted
+step_by r w false = stopped_of (r.count + 1) r.state
 
 -- behind the entry
-unfoldable pub stepOf : Run → List ℕ → Run
-stepOf r w = stepBy r w (ltb (r .count + 1) (r .wanted))
+unfoldable pub step_of : Run → List ℕ → Run
+step_of r w = step_by r w (ltb (r.count + 1) r.wanted)
 
-abbrev pub beginBy : Reader → List ℕ → ℕ → Bool → Bool → Run
-beginBy s w n false none = overOf 0 s (listed s (Refused 2))
-beginBy s w n true true = overOf 0 s (listed s (Refused 6))
-beginBy s w n true false = lookOf s w 0 n
+abbrev pub begin_by : Reader → List ℕ → ℕ → Bool → Bool → Run
+begin_by s w n false none = over_of 0 s (listed s (Refused 2))
+begin_by s w n true true = over_of 0 s (listed s (Refused 6))
+begin_by s w n true false = look_of s w 0 n
 
-unfoldable pub beginOf : Reader → List ℕ → ℕ → ℕ → Run
-beginOf s w room wanted = beginBy s w (min wanted room) (own s (length w)) (eqb (min wanted room) 0)
+unfoldable pub begin_of : Reader → List ℕ → ℕ → ℕ → Run
+begin_of s w room wanted = begin_by s w (min wanted room) (own s (length w)) (eqb (min wanted room) 0)
 
-abbrev pub leftBy : Run → List ℕ → Bool → List Record
-leftBy r w true = r .entry ∷ collected (r .wanted - (r .count + 1)) (r .state) w .records
-leftBy r w false = []
+abbrev pub left_by : Run → List ℕ → Bool → List Record
+left_by r w true = r.entry ∷ (collected (r.wanted - (r.count + 1)) r.state w).records
+left_by r w false = []
 
 -- the records that are still to be listed
-unfoldable pub leftOf : Run → List ℕ → List Record
-leftOf r w = leftBy r w (r .more)
+unfoldable pub left_of : Run → List ℕ → List Record
+left_of r w = left_by r w r.more
 
-abbrev pub endBy : Run → List ℕ → Bool → Listed
-endBy r w true =
-    listed (afterOf (collected (r .wanted - (r .count + 1)) (r .state) w .state)) (Count (r .count + 1 + length (collected (r .wanted - (r .count + 1)) (r .state) w .records)))
-endBy r w false = r .out
+abbrev pub end_by : Run → List ℕ → Bool → Listed
+end_by r w true =
+    listed (after_of (collected (r.wanted - (r.count + 1)) r.state w).state) (Count (r.count + 1 + length (collected (r.wanted - (r.count + 1)) r.state w).records))
+end_by r w false = r.out
 
 -- the answer in the end
-unfoldable pub endOf : Run → List ℕ → Listed
-endOf r w = endBy r w (r .more)
+unfoldable pub end_of : Run → List ℕ → Listed
+end_of r w = end_by r w r.more
 
 -- a run that fits a table of so many entries
 pub record Ready (r : Run) (room : ℕ) : Type 0 where
-  pub fits : r .wanted ≤ room
-  pub ahead : r .more ≡ true → r .count < r .wanted
-  pub sound : r .more ≡ true → Sound (r .state)
+  pub fits : r.wanted ≤ room
+  pub ahead : r.more ≡ true → r.count < r.wanted
+  pub sound : r.more ≡ true → Sound r.state

@@ -1,37 +1,38 @@
 // Sets of records: a lent table gets the five numbers of each record that next would give, up to a wanted count.
 // Each call takes any state, window, table and count, and does its own checking.
-use reader::Answer;
-use reader::Byte;
-use reader::Line;
-use reader::Reader;
-use record::Noted;
-use record::Record;
-ghost use mathlib.Core.Path.{_≡_};
-ghost use Prim.Native.Nat.{_+_, _<_, _≤_, _/_};
-ghost use lib.ListN.{length};
-ghost use lib.Seq.{sets};
-ghost use Rattle·sets·specs.specs.Sets.{rowIn, nextStart, afterOf, numbersOf, setOf, tableOf, entriesOf};
-ghost use Rattle·sets·specs.specs.Inside.{overOf, lookOf, stepOf, beginOf, stoppedOf, Sound};
+#![tactic(auto)]
+
+ghost use Rattle.std.specs.Prelude.{◌≡◌, ◌+◌, ◌<◌, ◌≤◌, ◌/◌, length};
+ghost use Rattle.std.proofs.lemmas.List.Edits.{sets};
+ghost use Rattle.sets.specs.Sets.{row_in, next_start, after_of, numbers_of, set_of, table_of, entries_of};
+ghost use Rattle.sets.specs.Inside.{over_of, look_of, step_of, begin_of, stopped_of, Sound};
+
+use reader::{Answer, Byte, Line, Reader};
+use record::{Noted, Record};
 
 // What a set call answers: how many records it listed; with none, next's answer; or 2 or 6.
+#[derive(Clone, Copy)]
 pub enum Reply {
     Count(usize),
     Other(Answer),
     Refused(u8),
 }
 
+#[derive(Clone, Copy)]
 pub struct Listed {
     pub state: Reader,
     pub answer: Reply,
 }
 
 // The record that an answer gives, or no record.
+#[derive(Clone, Copy)]
 pub enum Row {
     Of(Record),
     No,
 }
 
 // A set call on its way: so many records are listed of those wanted.
+#[derive(Clone, Copy)]
 pub struct Run {
     pub count: usize,
     pub wanted: usize,
@@ -42,7 +43,7 @@ pub struct Run {
 }
 
 fn given(answer: Answer) -> Row
-    ensures { λ r. ⌜ r ≡ rowIn answer ⌝ }
+    ensures { result ≡ row_in answer }
 {
     match answer {
         Answer::Record(r, _) => Row::Of(r),
@@ -59,8 +60,8 @@ fn given(answer: Answer) -> Row
 
 // Where the record behind an answered one starts; behind one with no final LF, the end of the held bytes.
 fn next_start(noted: Noted, fill: usize) -> usize
-    requires { ⌜ nextStart fill noted ≤ fill ⌝ }
-    ensures { λ r. ⌜ r ≡ nextStart fill noted ⌝ }
+    requires { next_start fill noted ≤ fill }
+    ensures { result ≡ next_start fill noted }
 {
     match noted {
         Noted::Four(_, _, _, d) => d + 1,
@@ -73,8 +74,8 @@ fn next_start(noted: Noted, fill: usize) -> usize
 
 // The state behind the record that it answered last: nothing of the following one counts as searched.
 fn after(state: Reader) -> Reader
-    requires { ⌜ Sound state ⌝ }
-    ensures { λ r. ⌜ r ≡ afterOf state ⌝ }
+    requires { Sound state }
+    ensures { result ≡ after_of state }
 {
     let noted = state.noted;
     let line = state.line;
@@ -97,7 +98,7 @@ fn after(state: Reader) -> Reader
 impl Run {
     // There is no more to list.
     fn over(count: usize, state: Reader, out: Listed) -> Run
-        ensures { λ r. ⌜ r ≡ overOf count state out ⌝ }
+        ensures { result ≡ over_of count state out }
     {
         Run {
             count,
@@ -117,8 +118,8 @@ impl Run {
 
     // The set ends behind the records listed so far.
     fn stopped(count: usize, state: Reader) -> Run
-        requires { ⌜ Sound state ⌝ }
-        ensures { λ r. ⌜ r ≡ stoppedOf count state ⌝ }
+        requires { Sound state }
+        ensures { result ≡ stopped_of count state }
     {
         let s = after(state);
         Run::over(
@@ -133,8 +134,8 @@ impl Run {
 
     // What next answers, where so many records are listed.
     fn look(state: Reader, window: &[u8], count: usize, wanted: usize) -> Run
-        requires { ⌜ (0 < count → Sound state) ⌝ }
-        ensures { λ r. ⌜ r ≡ lookOf state (now (window .entry)) count wanted ⌝ }
+        requires { 0 < count → Sound state }
+        ensures { result ≡ look_of state window.now count wanted }
     {
         let x = state.next(window);
         let then = x.state;
@@ -164,8 +165,8 @@ impl Run {
 
     // The entry is stored: on to the next record, if one is wanted.
     fn step(self, window: &[u8]) -> Run
-        requires { ⌜ (self .count < self .wanted) × Sound (self .state) ⌝ }
-        ensures { λ r. ⌜ r ≡ stepOf self (now (window .entry)) ⌝ }
+        requires { (self.count < self.wanted) × Sound self.state }
+        ensures { result ≡ step_of self window.now }
     {
         let state = self.state;
         let count = self.count + 1;
@@ -177,7 +178,7 @@ impl Run {
 
     // A set call begins, for a table with room for so many entries: the refusals, and the first record.
     fn begin(state: Reader, window: &[u8], room: usize, wanted: usize) -> Run
-        ensures { λ r. ⌜ r ≡ beginOf state (now (window .entry)) room wanted ⌝ }
+        ensures { result ≡ begin_of state window.now room wanted }
     {
         if !state.owns(window.len()) {
             return Run::over(
@@ -206,8 +207,8 @@ impl Run {
 
 // The five numbers of an entry are stored from `at` on.
 fn put(table: &mut [usize], at: usize, entry: Record)
-    requires { ⌜ at + 5 ≤ length (now table) ⌝ }
-    ensures { λ _. ⌜ now (table .exit) ≡ sets (now (table .entry)) at (numbersOf entry) ⌝ }
+    requires { at + 5 ≤ length table.old }
+    ensures { table.new ≡ sets table.old at (numbers_of entry) }
 {
     table[at] = entry.start;
     table[at + 1] = entry.seq;
@@ -223,8 +224,8 @@ pub fn read_record_set_exact(
     table: &mut [usize],
     wanted: usize,
 ) -> Listed
-    ensures answer { λ r. ⌜ r ≡ setOf state (now (window .entry)) (length (now (table .entry)) / 5) wanted ⌝ }
-    ensures numbers { λ _. ⌜ now (table .exit) ≡ tableOf state (now (window .entry)) wanted (now (table .entry)) ⌝ }
+    ensures answer { result ≡ set_of state window.now (length table.old / 5) wanted }
+    ensures numbers { table.new ≡ table_of state window.now wanted table.old }
 {
     let mut run = Run::begin(state, window, table.len() / 5, wanted);
     while run.more {
@@ -238,8 +239,8 @@ pub fn read_record_set_exact(
 
 // Lists as many records as there are and the table has whole entries for.
 pub fn read_record_set(state: Reader, window: &[u8], table: &mut [usize]) -> Listed
-    ensures answer { λ r. ⌜ r ≡ setOf state (now (window .entry)) (length (now (table .entry)) / 5) (length (now (table .entry)) / 5) ⌝ }
-    ensures numbers { λ _. ⌜ now (table .exit) ≡ tableOf state (now (window .entry)) (length (now (table .entry)) / 5) (now (table .entry)) ⌝ }
+    ensures answer { result ≡ set_of state window.now (length table.old / 5) (length table.old / 5) }
+    ensures numbers { table.new ≡ table_of state window.now (length table.old / 5) table.old }
 {
     let n = table.len() / 5;
     read_record_set_exact(state, window, table, n)
@@ -255,7 +256,7 @@ pub fn read_entries_exact(
     table: &mut [Entry],
     wanted: usize,
 ) -> Listed
-    ensures { λ r. ⌜ (r ≡ setOf state (now (window .entry)) (length (now (table .entry))) wanted) × (now (table .exit) ≡ entriesOf state (now (window .entry)) wanted (now (table .entry))) ⌝ }
+    ensures { (result ≡ set_of state window.now (length table.old) wanted) × (table.new ≡ entries_of state window.now wanted table.old) }
 {
     let mut run = Run::begin(state, window, table.len(), wanted);
     while run.more {

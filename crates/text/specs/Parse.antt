@@ -1,35 +1,32 @@
 -- A number out of text.
 -- Assumes nothing.
-use Prim.Native.Nat.{ℕ, _+_, _-_, _*_}
-use mathlib.Core.Bool.{Bool, true, false, _&&_}
-use mathlib.Core.List.{List, [], _∷_}
-use lib.Dec.{leb}
-use Rattle·text·specs.specs.Decimal.{Zero}
-use Rattle·text·specs.specs.declared.Parsed.{Parsed}
-use Rattle·text·specs.specs.declared.Parsed.the-variants.{Number, Refused}
+use Rattle.std.specs.Prelude.{ℕ, ◌+◌, ◌-◌, ◌*◌, Bool, true, false, ◌&&◌, List, [], ◌∷◌, leb}
+use Rattle.text.specs.Decimal.{ZERO}
+use Rattle.text.specs.declared.Parsed.{Parsed}
+use Rattle.text.specs.declared.Parsed.TheVariants.{Number, Refused}
 
 -- `0` to `9`
-abbrev pub isDigit : ℕ → Bool
-isDigit b = leb Zero b && leb b 57
+abbrev pub is_digit : ℕ → Bool
+is_digit b = leb ZERO b && leb b 57
 
-unfoldable pub allDigits : List ℕ → Bool
-allDigits [] = true
-allDigits (b ∷ bs) = isDigit b && allDigits bs
+unfoldable pub all_digits : List ℕ → Bool
+all_digits [] = true
+all_digits (b ∷ bs) = is_digit b && all_digits bs
 
 -- the number that v and the digits behind it are
-unfoldable pub valueFrom : ℕ → List ℕ → ℕ
-valueFrom v [] = v
-valueFrom v (b ∷ bs) = valueFrom (v * 10 + (b - Zero)) bs
+unfoldable pub value_from : ℕ → List ℕ → ℕ
+value_from v [] = v
+value_from v (b ∷ bs) = value_from (v * 10 + (b - ZERO)) bs
 
-abbrev pub parsedBy : Bool → ℕ → Parsed
-parsedBy true v = Number v
-parsedBy false v = Refused
+abbrev pub parsed_by : Bool → ℕ → Parsed
+parsed_by true v = Number v
+parsed_by false v = Refused
 
 -- v and the digits behind it are a number from `low` to `high`
-abbrev pub parsedFrom : ℕ → List ℕ → ℕ → ℕ → Parsed
-parsedFrom v s low high = parsedBy (allDigits s && (leb low (valueFrom v s) && leb (valueFrom v s) high)) (valueFrom v s)
+abbrev pub parsed_from : ℕ → List ℕ → ℕ → ℕ → Parsed
+parsed_from v s low high = parsed_by (all_digits s && (leb low (value_from v s) && leb (value_from v s) high)) (value_from v s)
 
 -- the text is one digit or more, and their number lies from `low` to `high`
-unfoldable pub numberWithin : List ℕ → ℕ → ℕ → Parsed
-numberWithin [] low high = Refused
-numberWithin (b ∷ bs) low high = parsedFrom 0 (b ∷ bs) low high
+unfoldable pub number_within : List ℕ → ℕ → ℕ → Parsed
+number_within [] low high = Refused
+number_within (b ∷ bs) low high = parsed_from 0 (b ∷ bs) low high

@@ -1,17 +1,18 @@
 // Text: numbers as decimal digits, lines of values, and numbers out of text.
 // Each function takes any output, any place and any bytes; what does not fit is refused with 12, and nothing is written.
+#![tactic(auto)]
+
+ghost use Rattle.std.specs.Prelude.{◌≡◌, ◌++◌, ◌∷◌, [], ◌+◌, ◌≤◌, ◌<◌, length, take, drop};
+ghost use Rattle.std.proofs.Math.Option.{none};
+ghost use Rattle.writer.specs.Answer.{Writes};
+ghost use Rattle.text.specs.Decimal.{ZERO, decimal};
+ghost use Rattle.text.specs.Line.{TAB, value_bytes, line_bytes};
+ghost use Rattle.text.specs.Parse.{number_within};
+
 use writer::Written;
-ghost use mathlib.Core.Path.{_≡_};
-ghost use mathlib.Core.Option.{none};
-ghost use mathlib.Core.List.{_++_, _∷_, []};
-ghost use Prim.Native.Nat.{_+_, _≤_, _<_};
-ghost use lib.ListN.{length, take, drop};
-ghost use Rattle·writer.specs.Answer.{Writes};
-ghost use Rattle·text·specs.specs.Decimal.{Zero, decimal};
-ghost use Rattle·text·specs.specs.Line.{Tab, valueBytes, lineBytes};
-ghost use Rattle·text·specs.specs.Parse.{numberWithin};
 
 // A number that lies within its limits, or no such number.
+#[derive(Clone, Copy)]
 pub enum Parsed {
     Number(u64),
     Refused,
@@ -19,16 +20,16 @@ pub enum Parsed {
 
 // The ASCII code of a digit.
 fn glyph(d: u64) -> u8
-    requires { ⌜ d < 10 ⌝ }
-    ensures { λ r. ⌜ r ≡ Zero + d ⌝ }
+    requires { d < 10 }
+    ensures { result ≡ ZERO + d }
 {
     48 + d as u8
 }
 
 // The decimal digits of n in front of `end`; the answer is the place of the first.
 fn digits_before(text: &mut [u8], end: usize, n: u64) -> usize
-    requires { ⌜ (20 ≤ end) × (end ≤ length (now text)) ⌝ }
-    ensures { λ r. ⌜ (drop r (now (text .exit)) ≡ decimal n ++ drop end (now (text .entry))) × (r ≤ end) × (end ≤ r + 20) ⌝ }
+    requires { (20 ≤ end) × (end ≤ length text.old) }
+    ensures { (drop result text.new ≡ decimal n ++ drop end text.old) × (result ≤ end) × (end ≤ result + 20) }
 {
     let mut i = end;
     let mut rest = n;
@@ -44,8 +45,8 @@ fn digits_before(text: &mut [u8], end: usize, n: u64) -> usize
 
 // A tab and the digits of n in front of `end`.
 fn value_before(text: &mut [u8], end: usize, n: u64) -> usize
-    requires { ⌜ (21 ≤ end) × (end ≤ length (now text)) ⌝ }
-    ensures { λ r. ⌜ (drop r (now (text .exit)) ≡ Tab ∷ decimal n ++ drop end (now (text .entry))) × (r ≤ end) × (end ≤ r + 21) ⌝ }
+    requires { (21 ≤ end) × (end ≤ length text.old) }
+    ensures { (drop result text.new ≡ TAB ∷ decimal n ++ drop end text.old) × (result ≤ end) × (end ≤ result + 21) }
 {
     let i = digits_before(text, end, n) - 1;
     text[i] = b'\t';
@@ -54,8 +55,8 @@ fn value_before(text: &mut [u8], end: usize, n: u64) -> usize
 
 // At the end of a text of 127 bytes, a tab and the digits of each value, and LF.
 fn values_before(text: &mut [u8], values: &[u64]) -> usize
-    requires { ⌜ (length (now text) ≡ 127) × (length (now values) ≤ 6) ⌝ }
-    ensures { λ r. ⌜ (drop r (now (text .exit)) ≡ valueBytes (now (values .entry))) × (r ≤ 127) ⌝ }
+    requires { (length text.old ≡ 127) × (length values.now ≤ 6) }
+    ensures { (drop result text.new ≡ value_bytes values.now) × (result ≤ 127) }
 {
     let mut i = 126;
     text[i] = b'\n';
@@ -69,7 +70,7 @@ fn values_before(text: &mut [u8], values: &[u64]) -> usize
 
 // Two runs of bytes from a place on, one behind the other, where there is room for both.
 fn put_both(out: &mut [u8], at: usize, a: &[u8], b: &[u8]) -> Written
-    ensures { λ r. ⌜ Writes none (now (out .entry)) at (now (a .entry) ++ now (b .entry)) r (now (out .exit)) ⌝ }
+    ensures { Writes none out.old at (a.now ++ b.now) result out.new }
 {
     if out.len() < at {
         return Written::Refused(12);
@@ -89,7 +90,7 @@ fn put_both(out: &mut [u8], at: usize, a: &[u8], b: &[u8]) -> Written
 
 // The decimal digits of n, from place `at` on.
 pub fn put_number(out: &mut [u8], at: usize, n: u64) -> Written
-    ensures { λ r. ⌜ Writes none (now (out .entry)) at (decimal n) r (now (out .exit)) ⌝ }
+    ensures { Writes none out.old at (decimal n) result out.new }
 {
     let mut text = [0u8; 127];
     let from = digits_before(&mut text, 127, n);
@@ -98,7 +99,7 @@ pub fn put_number(out: &mut [u8], at: usize, n: u64) -> Written
 
 // A line: the word, a tab and the decimal digits of each value, LF. A line has six values at most.
 pub fn put_line(out: &mut [u8], at: usize, word: &[u8], values: &[u64]) -> Written
-    ensures { λ r. ⌜ Writes none (now (out .entry)) at (lineBytes (now (word .entry)) (take 6 (now (values .entry)))) r (now (out .exit)) ⌝ }
+    ensures { Writes none out.old at (line_bytes word.now (take 6 values.now)) result out.new }
 {
     let mut text = [0u8; 127];
     let n = lines::least(6, values.len());
@@ -108,7 +109,7 @@ pub fn put_line(out: &mut [u8], at: usize, word: &[u8], values: &[u64]) -> Writt
 
 // The number that the text's decimal digits are, if it lies from `low` to `high`.
 pub fn number_within(text: &[u8], low: u64, high: u64) -> Parsed
-    ensures { λ r. ⌜ r ≡ numberWithin (now (text .entry)) low high ⌝ }
+    ensures { result ≡ number_within text.now low high }
 {
     if text.len() == 0 {
         return Parsed::Refused;

@@ -1,30 +1,26 @@
 -- Row 13: which fields a checked writer refuses.
 -- Assumes nothing.
-use Prim.Native.Nat.{ℕ, _-_}
-use mathlib.Core.Bool.{Bool, true, _&&_, not}
-use mathlib.Core.Option.{Option, none, some}
-use mathlib.Core.List.{List}
-use lib.ListN.{length}
-use lib.Dec.{eqb}
-use Rattle·reading.specs.Bytes.{CR, byteAt, lineEnds, isEmpty, idLength}
+use Rattle.std.specs.Prelude.{ℕ, ◌-◌, Bool, true, ◌&&◌, not, List, length, eqb}
+use Rattle.std.proofs.Math.Option.{Option, none, some}
+use Rattle.reading.specs.Bytes.{CR, byte_at, line_ends, is_empty, id_length}
 
 -- a field holds no LF and doesn't end in 13
-unfoldable pub goodField : List ℕ → Bool
-goodField s = isEmpty (lineEnds 0 s) && not (eqb (byteAt s (length s - 1)) CR)
+unfoldable pub good_field : List ℕ → Bool
+good_field s = is_empty (line_ends 0 s) && not (eqb (byte_at s (length s - 1)) CR)
 
 -- the fields are good, and the sequence is as long as the quality
-unfoldable pub goodFields : List ℕ → List ℕ → List ℕ → Bool
-goodFields head seq qual = goodField head && goodField seq && goodField qual && eqb (length seq) (length qual)
+unfoldable pub good_fields : List ℕ → List ℕ → List ℕ → Bool
+good_fields head seq qual = good_field head && good_field seq && good_field qual && eqb (length seq) (length qual)
 
 -- the id is all of the bytes given for it: none of them is a space, which would end it
-abbrev pub goodId : List ℕ → Bool
-goodId id = eqb (idLength id) (length id)
+abbrev pub good_id : List ℕ → Bool
+good_id id = eqb (id_length id) (length id)
 
 -- a description, where it is given, is a field
-abbrev pub goodDesc : Option (List ℕ) → Bool
-goodDesc none = true
-goodDesc (some desc) = goodField desc
+abbrev pub good_desc : Option (List ℕ) → Bool
+good_desc none = true
+good_desc (some desc) = good_field desc
 
 -- the same of an id and a description given apart, and the id holds no space
-unfoldable pub goodParts : List ℕ → Option (List ℕ) → List ℕ → List ℕ → Bool
-goodParts id desc seq qual = goodFields id seq qual && goodDesc desc && goodId id
+unfoldable pub good_parts : List ℕ → Option (List ℕ) → List ℕ → List ℕ → Bool
+good_parts id desc seq qual = good_fields id seq qual && good_desc desc && good_id id

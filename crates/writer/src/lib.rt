@@ -1,24 +1,22 @@
 // Writers of records into lent output, and checked writers, which refuse fields that would not read back.
 // Each takes any place and any lengths; a refusal writes nothing.
+#![tactic(auto)]
+
+ghost use Rattle.std.specs.Prelude.{◌≡◌, ◌++◌, ◌∷◌, [], ◌+◌, ◌-◌, ◌≤◌, length, eqb};
+ghost use Rattle.std.proofs.Math.Option.{none};
+ghost use Rattle.std.proofs.Math.Seq.{slice};
+ghost use Rattle.reading.specs.Bytes.{LF, CR, PLUS, byte_at};
+ghost use Rattle.record.specs.Check.{five_of};
+ghost use Rattle.writer.specs.Bytes.{given_desc, laid};
+ghost use Rattle.writer.specs.Fields.{good_field, good_fields, good_parts};
+ghost use Rattle.writer.specs.Answer.{Writes};
+ghost use Rattle.writer.specs.Promises.{WritesTo, WritesParts, WritesUnchanged, WritesToChecked, WritesPartsChecked};
+
 use lines::Found;
-use record::Record;
-use record::id_length;
-use record::less;
-ghost use mathlib.Core.Path.{_≡_};
-ghost use mathlib.Core.Option.{none};
-ghost use mathlib.Core.List.{_++_, _∷_, []};
-ghost use Prim.Native.Nat.{_+_, _-_, _≤_};
-ghost use lib.ListN.{length};
-ghost use lib.Seq.{slice};
-ghost use lib.Dec.{eqb};
-ghost use Rattle·reading.specs.Bytes.{LF, CR, Plus, byteAt};
-ghost use Rattle·record.specs.Check.{fiveOf};
-ghost use Rattle·writer·specs.specs.Bytes.{givenDesc, laid};
-ghost use Rattle·writer·specs.specs.Fields.{goodField, goodFields, goodParts};
-ghost use Rattle·writer·specs.specs.Answer.{Writes};
-ghost use Rattle·writer·specs.specs.Promises.{WritesTo, WritesParts, WritesUnchanged, WritesToChecked, WritesPartsChecked};
+use record::{Record, id_length, less};
 
 // How many bytes were written, or the number of a refusal.
+#[derive(Clone, Copy)]
 pub enum Written {
     Wrote(usize),
     Refused(u8),
@@ -26,15 +24,15 @@ pub enum Written {
 
 // What is left of an output of n bytes from a place on, after three fields.
 fn left(n: usize, at: usize, head: usize, seq: usize, qual: usize) -> usize
-    ensures { λ r. ⌜ r ≡ n - (at + head + seq + qual) ⌝ }
+    ensures { result ≡ n - (at + head + seq + qual) }
 {
     less(less(less(less(n, at), head), seq), qual)
 }
 
 // Bytes from a place on; the answer is the place behind them.
 fn put(out: &mut [u8], at: usize, src: &[u8]) -> usize
-    requires { ⌜ at + length (now src) ≤ length (now out) ⌝ }
-    ensures { λ r. ⌜ (r ≡ at + length (now (src .entry))) × (now (out .exit) ≡ laid (now (out .entry)) at (now (src .entry))) ⌝ }
+    requires { at + length src.now ≤ length out.old }
+    ensures { (result ≡ at + length src.now) × (out.new ≡ laid out.old at src.now) }
 {
     lines::copy_into(&mut out[at..], src);
     at + src.len()
@@ -42,8 +40,8 @@ fn put(out: &mut [u8], at: usize, src: &[u8]) -> usize
 
 // Two runs of bytes, one behind the other.
 fn put_both(out: &mut [u8], at: usize, a: &[u8], b: &[u8]) -> usize
-    requires { ⌜ at + length (now a) + length (now b) ≤ length (now out) ⌝ }
-    ensures { λ r. ⌜ (r ≡ at + length (now (a .entry) ++ now (b .entry))) × (now (out .exit) ≡ laid (now (out .entry)) at (now (a .entry) ++ now (b .entry))) ⌝ }
+    requires { at + length a.now + length b.now ≤ length out.old }
+    ensures { (result ≡ at + length (a.now ++ b.now)) × (out.new ≡ laid out.old at (a.now ++ b.now)) }
 {
     let p = put(out, at, a);
     put(out, p, b)
@@ -51,8 +49,8 @@ fn put_both(out: &mut [u8], at: usize, a: &[u8], b: &[u8]) -> usize
 
 // What follows the head: LF, seq, LF, `+`, LF, qual, LF.
 fn put_lines(out: &mut [u8], at: usize, seq: &[u8], qual: &[u8]) -> usize
-    requires { ⌜ at + length (now seq) + length (now qual) + 5 ≤ length (now out) ⌝ }
-    ensures { λ r. ⌜ (r ≡ at + (length (now (seq .entry)) + length (now (qual .entry)) + 5)) × (now (out .exit) ≡ laid (now (out .entry)) at (LF ∷ now (seq .entry) ++ LF ∷ Plus ∷ LF ∷ now (qual .entry) ++ LF ∷ [])) ⌝ }
+    requires { at + length seq.now + length qual.now + 5 ≤ length out.old }
+    ensures { (result ≡ at + (length seq.now + length qual.now + 5)) × (out.new ≡ laid out.old at (LF ∷ seq.now ++ LF ∷ PLUS ∷ LF ∷ qual.now ++ LF ∷ [])) }
 {
     let p = put_both(out, at, b"\n", seq);
     let q = put_both(out, p, b"\n+\n", qual);
@@ -61,7 +59,7 @@ fn put_lines(out: &mut [u8], at: usize, seq: &[u8], qual: &[u8]) -> usize
 
 // Writes a record's four lines from place `at` on; refused with 12 if the output has too little room from there.
 pub fn write_to(out: &mut [u8], at: usize, head: &[u8], seq: &[u8], qual: &[u8]) -> Written
-    ensures { λ r. ⌜ WritesTo (now (out .entry)) at (now (head .entry)) (now (seq .entry)) (now (qual .entry)) r (now (out .exit)) ⌝ }
+    ensures { WritesTo out.old at head.now seq.now qual.now result out.new }
 {
     if left(out.len(), at, head.len(), seq.len(), qual.len()) < 6 {
         return Written::Refused(12);
@@ -81,7 +79,7 @@ pub fn write_parts(
     seq: &[u8],
     qual: &[u8],
 ) -> Written
-    ensures { λ r. ⌜ WritesParts (now (out .entry)) at (now (id .entry)) (givenDesc given (now (desc .entry))) (now (seq .entry)) (now (qual .entry)) r (now (out .exit)) ⌝ }
+    ensures { WritesParts out.old at id.now (given_desc given desc.now) seq.now qual.now result out.new }
 {
     if !given {
         return write_to(out, at, id, seq, qual);
@@ -98,8 +96,8 @@ pub fn write_parts(
 
 // The window's bytes from `start` up to `end`, and LF.
 fn put_part(out: &mut [u8], at: usize, window: &[u8], start: usize, end: usize) -> Written
-    requires { ⌜ (start ≤ end) × (end ≤ length (now window)) ⌝ }
-    ensures { λ r. ⌜ Writes none (now (out .entry)) at (slice start end (now (window .entry)) ++ LF ∷ []) r (now (out .exit)) ⌝ }
+    requires { (start ≤ end) × (end ≤ length window.now) }
+    ensures { Writes none out.old at (slice start end window.now ++ LF ∷ []) result out.new }
 {
     if less(less(out.len(), at), end - start) < 1 {
         return Written::Refused(12);
@@ -110,7 +108,7 @@ fn put_part(out: &mut [u8], at: usize, window: &[u8], start: usize, end: usize) 
 
 // Writes the window's bytes from a record's start to its end, and LF; refused with 14 if the five numbers fail the view test.
 pub fn write_unchanged(out: &mut [u8], at: usize, window: &[u8], r: Record) -> Written
-    ensures { λ a. ⌜ WritesUnchanged (now (out .entry)) at (now (window .entry)) (fiveOf r) a (now (out .exit)) ⌝ }
+    ensures { WritesUnchanged out.old at window.now (five_of r) result out.new }
 {
     if !r.fits(window.len()) {
         return Written::Refused(14);
@@ -122,7 +120,7 @@ pub fn write_unchanged(out: &mut [u8], at: usize, window: &[u8], r: Record) -> W
 
 // The last byte is 13.
 fn ends_in_cr(s: &[u8]) -> bool
-    ensures { λ r. ⌜ r ≡ eqb (byteAt (now (s .entry)) (length (now (s .entry)) - 1)) CR ⌝ }
+    ensures { result ≡ eqb (byte_at s.now (length s.now - 1)) CR }
 {
     let n = s.len();
     if n == 0 {
@@ -134,7 +132,7 @@ fn ends_in_cr(s: &[u8]) -> bool
 
 // The test of one field: it holds no LF and doesn't end in 13.
 fn good_field(s: &[u8]) -> bool
-    ensures { λ r. ⌜ r ≡ goodField (now (s .entry)) ⌝ }
+    ensures { result ≡ good_field s.now }
 {
     let f = lines::find_line(s, 0);
     match f {
@@ -145,14 +143,14 @@ fn good_field(s: &[u8]) -> bool
 
 // The fields are good, and the sequence is as long as the quality.
 fn good_fields(head: &[u8], seq: &[u8], qual: &[u8]) -> bool
-    ensures { λ r. ⌜ r ≡ goodFields (now (head .entry)) (now (seq .entry)) (now (qual .entry)) ⌝ }
+    ensures { result ≡ good_fields head.now seq.now qual.now }
 {
     good_field(head) & good_field(seq) & good_field(qual) & (seq.len() == qual.len())
 }
 
 // As `write_to`; before that, refused with 13 if a field isn't good or the lengths differ.
 pub fn write_to_checked(out: &mut [u8], at: usize, head: &[u8], seq: &[u8], qual: &[u8]) -> Written
-    ensures { λ r. ⌜ WritesToChecked (now (out .entry)) at (now (head .entry)) (now (seq .entry)) (now (qual .entry)) r (now (out .exit)) ⌝ }
+    ensures { WritesToChecked out.old at head.now seq.now qual.now result out.new }
 {
     if !good_fields(head, seq, qual) {
         return Written::Refused(13);
@@ -162,7 +160,7 @@ pub fn write_to_checked(out: &mut [u8], at: usize, head: &[u8], seq: &[u8], qual
 
 // The same of an id and, where it is given, a description: each is a field, and the id holds no space.
 fn good_parts(id: &[u8], desc: &[u8], given: bool, seq: &[u8], qual: &[u8]) -> bool
-    ensures { λ r. ⌜ r ≡ goodParts (now (id .entry)) (givenDesc given (now (desc .entry))) (now (seq .entry)) (now (qual .entry)) ⌝ }
+    ensures { result ≡ good_parts id.now (given_desc given desc.now) seq.now qual.now }
 {
     good_fields(id, seq, qual) & (!given | good_field(desc)) & (id_length(id) == id.len())
 }
@@ -177,7 +175,7 @@ pub fn write_parts_checked(
     seq: &[u8],
     qual: &[u8],
 ) -> Written
-    ensures { λ r. ⌜ WritesPartsChecked (now (out .entry)) at (now (id .entry)) (givenDesc given (now (desc .entry))) (now (seq .entry)) (now (qual .entry)) r (now (out .exit)) ⌝ }
+    ensures { WritesPartsChecked out.old at id.now (given_desc given desc.now) seq.now qual.now result out.new }
 {
     if !good_parts(id, desc, given, seq, qual) {
         return Written::Refused(13);

@@ -1,0 +1,22 @@
+-- The view test makes the line's bounds those of a part of the window; where it fails, the front is shown.
+-- Assumes nothing.
+use mathlib.Core.Path.{refl}
+use native.Mathlib.Omega.{arith}
+use Rattle.reading.specs.Reading.{head_of}
+use Rattle.record.proofs.Views.{fits_asked, shown, hidden}
+use Rattle.record.specs.Views.{head_view}
+use Rattle.record.proofs.Record.head.Goals as goal
+
+pub returns-then-not-fits : goal.returns-then-not-fits
+unfolding head_view
+returns-then-not-fits c = hidden _ _ c.fits.ensures c.if-not-fits.true refl refl
+
+pub overflow_add-from : goal.overflow_add-from
+overflow_add-from c = let f = fits_asked _ _ c.fits.ensures c.if-not-fits.false in omega arith
+
+pub overflow_sub-to : goal.overflow_sub-to
+overflow_sub-to c = let f = fits_asked _ _ c.fits.ensures c.if-not-fits.false in omega arith
+
+pub returns : goal.returns
+unfolding head_view head_of
+returns c = let f = fits_asked _ _ c.fits.ensures c.if-not-fits.false in shown _ _ c.fits.ensures c.if-not-fits.false (record { bytes = c.line.ensures.bytes; place = c.line.ensures.place (omega arith) (omega arith) })

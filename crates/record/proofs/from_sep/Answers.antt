@@ -1,0 +1,15 @@
+-- As `from_head`, with two line ends noted.
+-- Assumes nothing.
+use mathlib.Core.Path.{sym, ◌∙◌}
+use native.Mathlib.Omega.{arith}
+use Rattle.lines.proofs.Laws.{line_found, line_none}
+use Rattle.record.proofs.from_sep.Goals as goal
+
+pub overflow_add-c : goal.overflow_add-c
+overflow_add-c c = omega (arith, (line_found _ _ _ (sym c.find_line-f.ensures ∙ c.in-At.is)).inside)
+
+pub returns-in-At : goal.returns-in-At
+returns-in-At c = rw (line_found _ _ _ (sym c.find_line-f.ensures ∙ c.in-At.is)).ends c.from_qual.ensures
+
+pub returns-in-Nothing : goal.returns-in-Nothing
+returns-in-Nothing c = rw (line_none _ _ (sym c.find_line-f.ensures ∙ c.in-Nothing.is))
