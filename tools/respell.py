@@ -80,7 +80,7 @@ def renamed(name, definitions):
 
 
 def clauses(text, change):
-    """A source file with its clauses, its `ghost` lines and the comments' backquoted words changed."""
+    """A source file with its clauses and its `ghost` lines changed."""
     out, depth, inside = [], 0, False
     for line in text.split("\n"):
         begins = re.match(r"\s*(requires|ensures|ghost)\b", line)
