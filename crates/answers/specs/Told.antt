@@ -1,14 +1,15 @@
 -- The line of each answer of next, and of a position.
 -- Assumes nothing.
-use Rattle.std.specs.Prelude.{ℕ, ◌+◌, ◌%◌, ◌^◌, List, [], ◌∷◌}
+use Rattle.std.specs.Prelude.{ℕ, ◌+◌, ◌%◌, ◌^◌, List, [], ◌∷◌, Option, Some, None, Result, Ok, Err}
 use Rattle.reading.specs.Marked.{bytes}
 use Rattle.record.specs.declared.Record as window
-use Rattle.record.specs.declared.Range.{Range}
-use Rattle.record.specs.declared.Range.TheVariants.{Absent, Bytes}
+use Rattle.record.specs.declared.Span.{Span}
+use Rattle.reader.specs.declared.Refusal.{Refusal}
+use Rattle.reader.specs.State.{number_of}
 use Rattle.reader.specs.declared.Reader.{Reader}
-use Rattle.reader.specs.declared.Next.{Next}
+use Rattle.reader.specs.declared.Outcome.{Outcome}
 use Rattle.reader.specs.declared.Answer.{Answer}
-use Rattle.reader.specs.declared.Answer.TheVariants.{Record, More, WindowLimit, InvalidStart, InvalidSeparator, UnequalLengths, UnexpectedEnd, End, Refused}
+use Rattle.reader.specs.declared.Answer.TheVariants.{Record, More, WindowLimit, InvalidStart, InvalidSeparator, UnequalLengths, UnexpectedEnd, End}
 use Rattle.reader.specs.Seek.{base}
 use Rattle.text.specs.Line.{line_bytes}
 
@@ -17,9 +18,9 @@ abbrev pub offset : ℕ → ℕ → ℕ
 offset k place = (k + place) % 2 ^ 64
 
 -- an id's range, where there is one
-abbrev pub id_values : ℕ → Range → List ℕ
-id_values k Absent = []
-id_values k (Bytes a b) = offset k a ∷ offset k b ∷ []
+abbrev pub id_values : ℕ → Option Span → List ℕ
+id_values k None = []
+id_values k (Some i) = offset k i.from ∷ offset k i.to ∷ []
 
 -- a record's values: L is its line
 abbrev pub record_values : ℕ → ℕ → window.Record → List ℕ
@@ -34,7 +35,6 @@ word_of (InvalidSeparator x L i) = bytes "error"
 word_of (UnequalLengths n m L i) = bytes "error"
 word_of (UnexpectedEnd L i) = bytes "error"
 word_of End = bytes "end"
-word_of (Refused n) = bytes "error"
 
 -- the values behind the word; an error's number is the first
 abbrev pub values_of : ℕ → ℕ → Answer → List ℕ
@@ -46,14 +46,18 @@ values_of L k (InvalidSeparator x l i) = 9 ∷ l.0 ∷ x ∷ id_values k i
 values_of L k (UnequalLengths n m l i) = 10 ∷ l.0 ∷ n ∷ m ∷ id_values k i
 values_of L k (UnexpectedEnd l i) = 11 ∷ l.0 ∷ id_values k i
 values_of L k End = []
-values_of L k (Refused n) = n ∷ []
 
 abbrev pub line_at : ℕ → ℕ → Answer → List ℕ
 line_at L k a = line_bytes (word_of a) (values_of L k a)
 
+-- a refusal is told by its number
+abbrev pub line_by : ℕ → ℕ → Result Answer Refusal → List ℕ
+line_by L k (Ok a) = line_at L k a
+line_by L k (Err r) = line_bytes (bytes "error") (number_of r ∷ [])
+
 -- the line of what next answered
-unfoldable pub answer_line : Next → List ℕ
-answer_line n = line_at n.state.line.0 (base n.state) n.answer
+unfoldable pub answer_line : Outcome Answer → List ℕ
+answer_line n = line_by n.state.line.0 (base n.state) n.answer
 
 -- the line of a state's position
 unfoldable pub position_line : Reader → List ℕ

@@ -5,16 +5,13 @@ ghost use Rattle.std.specs.Prelude.{◌≡◌, length};
 ghost use Rattle.protocol.specs.Outcome.{outcome};
 ghost use Rattle.c_count.specs.Numbers.{number_in, WindowIs};
 
-use protocol::Counted;
-
-// How many records the input has; where the count is refused with k, the largest number less k.
+// How many records the input has; where the count is refused, the largest number less the refusal's number.
 pub fn fq_count(input: &[u8], window: &mut [u8], chunk: usize) -> u64
     ensures answer { result ≡ number_in (outcome input.now (length window.old) chunk) }
     ensures bytes { WindowIs input.now window.old chunk window.new (outcome input.now (length window.old) chunk) }
 {
-    let c = protocol::count(input, window, chunk);
-    match c {
-        Counted::Done(t) => t.records,
-        Counted::Refused(k) => 18446744073709551615 - (k as u64),
+    match protocol::count(input, window, chunk) {
+        Ok(tally) => tally.records,
+        Err(refusal) => u64::MAX - u64::from(u8::from(refusal)),
     }
 }

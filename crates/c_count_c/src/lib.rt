@@ -6,7 +6,7 @@ ghost use Rattle.std.specs.Prelude.{◌≡◌, length};
 ghost use Rattle.protocol.specs.Outcome.{outcome};
 ghost use Rattle.c_count.specs.Numbers.{number_in, WindowIs};
 
-// How many records the input has; where the count is refused with k, the largest number less k.
+// How many records the input has; where the count is refused, the largest number less the refusal's number.
 #[unsafe(no_mangle)]
 pub extern "C" fn fq_count(input: &[u8], window: &mut [u8], chunk: usize) -> u64
     ensures answer { result ≡ number_in (outcome input.now (length window.old) chunk) }

@@ -5,7 +5,7 @@ use Rattle.std.proofs.lemmas.List.Edits.{sets}
 use Rattle.reading.specs.Answer.{Five}
 use Rattle.record.specs.Views.{View, view_test, head_view, seq_view, qual_view, id_view, desc_view, has_desc}
 use Rattle.c_interface.specs.declared.Told.{Told}
-use Rattle.c_interface.specs.Told.{briefly, values_of}
+use Rattle.c_interface.specs.Told.{briefly}
 
 abbrev pub view_of : View → Told
 view_of x = briefly 0 x.from (length x.bytes)
@@ -38,7 +38,7 @@ pub record Show : Type 0 where
 -- by the test: there is no room for 6 values
 abbrev pub call_by : List ℕ → Told → Bool → Show
 call_by v t true = record { code = 2; values = v }
-call_by v t false = record { code = t.code; values = sets v 0 (values_of t) }
+call_by v t false = record { code = t.code; values = sets v 0 t.values }
 
 unfoldable pub view_call : List ℕ → Told → Show
 view_call v t = call_by v t (ltb (length v) 6)

@@ -1,71 +1,40 @@
 // The views of a record: where a part of it stands in the window, and how long it is.
-ghost use Rattle.std.specs.Prelude.{◌≡◌};
+ghost use Rattle.std.specs.Prelude.{◌≡◌, length};
 ghost use Rattle.reading.specs.Answer.{five};
 ghost use Rattle.record.specs.Check.{five_of};
-ghost use Rattle.record.specs.Views.{head_view, seq_view, qual_view, id_view, desc_view};
-ghost use Rattle.c_interface.specs.Shown.{Shown, view_told, view_call, placed};
+ghost use Rattle.c_interface.specs.Told.{briefly};
+ghost use Rattle.c_interface.specs.Shown.{Shown, view_told, view_call};
 
-use crate::{Told, VALUES, brief, put};
+use crate::{ABSENT, DONE, FOREIGN, Told, VALUES};
 use record::Record;
 
-// A number, or 0 where the five numbers are no record's.
-fn from_of(window: &[u8], r: Record, from: usize) -> usize
-    ensures { result ≡ placed window.now (five_of r) from }
+// A part of the window, by its place.
+fn part(from: usize, bytes: &[u8]) -> Told
+    ensures { result ≡ briefly 0 from (length bytes.now) }
 {
-    if !r.fits(window.len()) {
-        return 0;
-    }
-    from
+    Told::new(DONE, [from, bytes.len(), 0, 0, 0, 0])
 }
 
-// Where the head stands.
-fn head_from(window: &[u8], r: Record) -> usize
-    ensures { result ≡ (head_view window.now (five_of r)).from }
-{
-    if !r.fits(window.len()) {
-        return 0;
-    }
-    r.start + 1
-}
-
-// Where the description stands.
-fn desc_from(window: &[u8], r: Record) -> usize
-    ensures { result ≡ (desc_view window.now (five_of r)).from }
-{
-    if !r.has_desc(window) {
-        return 0;
-    }
-    let from = head_from(window, r);
-    let head = r.head(window);
-    let id = record::id_length(head);
-    from + (id + 1)
-}
-
-// The view by its number: 0 head, 1 seq, 2 qual, 3 id, 4 description; any other is absent.
+// The view by its number, as c_interface.h has them: 0 head, 1 seq, 2 qual, 3 id, 4 description; any other is absent.
 fn view_told(which: usize, window: &[u8], r: Record) -> Told
     ensures { result ≡ view_told which window.now (five_of r) }
 {
-    if which == 0 {
-        let s = r.head(window);
-        return brief(0, head_from(window, r), s.len());
+    let absent = Told::new(ABSENT, [0; VALUES]);
+    // No record: each view is the empty part at offset 0, and there is no description.
+    if !r.fits(window.len()) {
+        return if which < 4 { part(0, &[]) } else { absent };
     }
-    if which == 1 {
-        let s = r.seq(window);
-        return brief(0, from_of(window, r, r.seq), s.len());
+    match which {
+        0 => part(r.start + 1, r.head(window)),
+        1 => part(r.seq, r.seq(window)),
+        2 => part(r.qual, r.qual(window)),
+        3 => part(r.start + 1, r.id_bytes(window)),
+        4 => match r.desc_bytes(window) {
+            Some(desc) => part(r.start + 1 + (r.head(window).len() - desc.len()), desc),
+            None => absent,
+        },
+        _ => absent,
     }
-    if which == 2 {
-        let s = r.qual(window);
-        return brief(0, from_of(window, r, r.qual), s.len());
-    }
-    if which == 3 {
-        let s = r.id_bytes(window);
-        return brief(0, head_from(window, r), s.len());
-    }
-    if (which == 4) & r.has_desc(window) {
-        let s = r.desc_bytes(window);
-        return brief(0, desc_from(window, r), s.len());
-    }
-    brief(18, 0, 0)
 }
 
 // The offset and the length of a view, of a record by its five numbers.
@@ -82,7 +51,7 @@ pub fn fq_view(
     ensures { Shown result values.new (view_call values.old (view_told which window.now (five start seq sep qual end))) }
 {
     if values.len() < VALUES {
-        return 2;
+        return FOREIGN;
     }
     let r = Record {
         start,
@@ -91,7 +60,5 @@ pub fn fq_view(
         qual,
         end,
     };
-    let t = view_told(which, window, r);
-    put(values, t);
-    t.code
+    view_told(which, window, r).put(values)
 }

@@ -1,21 +1,33 @@
 // The plain writers. Each is lent an output and writes from a place on; the value is how many bytes.
-ghost use Rattle.std.specs.Prelude.{◌≡◌};
+ghost use Rattle.std.specs.Prelude.{◌≡◌, ◌≤◌, ◌<◌, length, ℕ, Result};
+ghost use Rattle.std.specs.Fn.{FnOnceReturnsAtMut};
+ghost use Rattle.std.proofs.lemmas.List.Edits.{sets};
 ghost use Rattle.reading.specs.Answer.{five};
+ghost use Rattle.writer.specs.declared.Refusal.{Refusal};
 ghost use Rattle.writer.specs.Bytes.{given_desc};
 ghost use Rattle.c_interface.specs.Told.{written_told};
-ghost use Rattle.c_interface.specs.Writes.{Puts, write_to, write_parts, write_unchanged};
+ghost use Rattle.c_interface.specs.Writes.{Puts, untouched, write_to, write_parts, write_unchanged};
 
-use crate::{Told, VALUES, brief, put};
+use crate::{FOREIGN, Told, VALUES};
 use record::Record;
-use writer::Written;
+use writer::Refusal;
 
-fn written_told(answer: Written) -> Told
-    ensures { result ≡ written_told answer }
+// A write, where there is room for the values: they tell what it answers.
+fn write<F: FnOnce(&mut [u8]) -> Result<usize, Refusal>>(
+    values: &mut [usize],
+    out: &mut [u8],
+    writer: F,
+) -> usize
+    requires { F.IsAlwaysCallable writer }
+    ensures short { length values.old < 6 → Puts result values.new out.new (untouched values.old out.old) }
+    ensures written { 6 ≤ length values.old → (w : Result ℕ Refusal)
+        × FnOnceReturnsAtMut F.FnOnce writer out.old w out.new
+        × (result ≡ (written_told w).code) × (values.new ≡ sets values.old 0 (written_told w).values) }
 {
-    match answer {
-        Written::Wrote(n) => brief(0, n, 0),
-        Written::Refused(k) => brief(k as usize, 0, 0),
+    if values.len() < VALUES {
+        return FOREIGN;
     }
+    Told::from(writer(out)).put(values)
 }
 
 // A record's four lines.
@@ -29,13 +41,11 @@ pub fn fq_write_to(
 ) -> usize
     ensures { Puts result values.new out.new (write_to values.old out.old at head.now seq.now qual.now) }
 {
-    if values.len() < VALUES {
-        return 2;
-    }
-    let w = writer::write_to(out, at, head, seq, qual);
-    let t = written_told(w);
-    put(values, t);
-    t.code
+    write(
+        values,
+        out,
+        |out| writer::write_to(out, at, head, seq, qual),
+    )
 }
 
 // The same with a head of an id, and of a space and a description where one is given.
@@ -51,13 +61,11 @@ pub fn fq_write_parts(
 ) -> usize
     ensures { Puts result values.new out.new (write_parts values.old out.old at id.now (given_desc given desc.now) seq.now qual.now) }
 {
-    if values.len() < VALUES {
-        return 2;
-    }
-    let w = writer::write_parts(out, at, id, desc, given, seq, qual);
-    let t = written_told(w);
-    put(values, t);
-    t.code
+    write(
+        values,
+        out,
+        |out| writer::write_parts(out, at, id, given.then_some(desc), seq, qual),
+    )
 }
 
 // The window's bytes from a record's start to its end, and LF.
@@ -74,22 +82,16 @@ pub fn fq_write_unchanged(
 ) -> usize
     ensures { Puts result values.new out.new (write_unchanged values.old out.old at window.now (five start seq sep qual end)) }
 {
-    if values.len() < VALUES {
-        return 2;
-    }
-    let w = writer::write_unchanged(
+    let r = Record {
+        start,
+        seq,
+        sep,
+        qual,
+        end,
+    };
+    write(
+        values,
         out,
-        at,
-        window,
-        Record {
-            start,
-            seq,
-            sep,
-            qual,
-            end,
-        },
-    );
-    let t = written_told(w);
-    put(values, t);
-    t.code
+        |out| writer::write_unchanged(out, at, window, r),
+    )
 }

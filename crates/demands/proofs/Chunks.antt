@@ -10,12 +10,12 @@ use mathlib.Core.List.{List, [], ◌∷◌, ◌++◌, append_assoc, append-nil}
 use lib.ListN.{length, take, drop, length-append, length-take}
 use lib.Seq.{take-take}
 use lib.Dec.{leb}
+use Rattle.std.specs.Prelude.{Ok}
 use Rattle.reading.specs.Answer.{Told}
 use Rattle.reading.specs.Answer as read
 use Rattle.reading.specs.Reading.{first}
 use Rattle.reading.proofs.Readings.{first_front}
 use Rattle.reader.specs.declared.Reader.{Reader}
-use Rattle.reader.specs.declared.Opened.TheVariants.{Fresh}
 use Rattle.reader.specs.State.{smallest, largest, fresh_of, open_by, open_of}
 use Rattle.reader.specs.Feed.{feed_of}
 use Rattle.reader.specs.Next.{next_of}
@@ -101,11 +101,11 @@ heard_due {B = B} {a = a} {b = b} cs g e =
 -- ---- from a fresh bench
 
 -- what open gave is a fresh state
-pub open_is : (W : ℕ) (s : Reader) → open_of W ≡ Fresh s → s ≡ fresh_of W
+pub open_is : (W : ℕ) (s : Reader) → open_of W ≡ Ok s → s ≡ fresh_of W
 unfolding open_of
 open_is W s = go (leb smallest W && leb W largest)
   where
-    go : (t : Bool) → open_by W t ≡ Fresh s → s ≡ fresh_of W
+    go : (t : Bool) → open_by W t ≡ Ok s → s ≡ fresh_of W
     go true e = cc
     go false e = let z : ◌≡◌ {A = ℕ} 0 1 = cc in absurd (omega arith)
 

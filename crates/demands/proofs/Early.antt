@@ -8,13 +8,15 @@ use mathlib.Core.List.{List, ◌++◌}
 use lib.ListN.{length, take, drop, length-take, length-drop}
 use lib.Seq.{take-take, take_at, length-take-le}
 use lib.Dec.{leb}
+use Rattle.std.specs.Prelude.{Result, Ok, Err}
 use Rattle.reading.specs.Reading.{first}
 use Rattle.reading.proofs.Shifted.{drop-take}
 use Rattle.record.specs.declared.Noted.{Noted}
 use Rattle.record.specs.declared.Noted.TheVariants.{Zero, One, Two, Three, Four}
 use Rattle.reader.specs.declared.Reader.{Reader}
+use Rattle.reader.specs.declared.Refusal.{Refusal}
 use Rattle.reader.specs.State.{most_bytes, own}
-use Rattle.reader.specs.Feed.{held_of, taken_of, moves, front_if, taking_by, taking_of, feed_by, feed_of, finish_by, finish_of}
+use Rattle.reader.specs.Feed.{held_of, taken_of, moves, front_if, taking_by, taking_of, ready_of, feed_by, feed_of, finish_by, finish_of}
 use Rattle.reader.specs.Next.{onward_by, seeking_of, next_by, next_of}
 use Rattle.demands.specs.Runs.{took_of, Bench, feed, finish, next, Calls, here, then, Run}
 use Rattle.demands.proofs.Chunks.{feeds, asks, Steps, still, more, front_of_lem, heard_due, opened_stands, opened_due}
@@ -24,7 +26,7 @@ use Rattle.demands.proofs.Feeds.{took_some}
 
 feed_ended : (s : Reader) (w n : ℕ) → (feed_of s w n).state.ended ≡ s.ended
 unfolding feed_of taking_of
-feed_ended s w n = go (own s w) s.ended s.waiting
+feed_ended s w n = go (ready_of s w)
   where
     front : (b : Bool) → (front_if b s).ended ≡ s.ended
     front true = refl
@@ -34,11 +36,9 @@ feed_ended s w n = go (own s w) s.ended s.waiting
     by true = front (moves s n)
     by false = refl
 
-    go : (a b c : Bool) → (feed_by s n a b c).state.ended ≡ s.ended
-    go false b c = refl
-    go true true c = refl
-    go true false false = refl
-    go true false true = by (leb (s.byte.0 + held_of s + taken_of s n) most_bytes)
+    go : (a : Result Unit Refusal) → (feed_by s n a).state.ended ≡ s.ended
+    go (Err r) = refl
+    go (Ok u) = by (leb (s.byte.0 + held_of s + taken_of s n) most_bytes)
 
 pub next_ended : (s : Reader) (w : List ℕ) → (next_of s w).state.ended ≡ s.ended
 unfolding next_of seeking_of
@@ -59,13 +59,11 @@ next_ended s w = go (own s (length w)) s.closed
 -- a finish that leaves the end unnoted was refused, and left all as it was
 finish_open : (s : Reader) (w : ℕ) → (finish_of s w).state.ended ≡ false → (finish_of s w).state ≡ s
 unfolding finish_of
-finish_open s w = go (own s w) s.ended s.waiting
+finish_open s w = go (ready_of s w)
   where
-    go : (a b c : Bool) → (finish_by s a b c).state.ended ≡ false → (finish_by s a b c).state ≡ s
-    go false b c e = refl
-    go true true c e = refl
-    go true false false e = refl
-    go true false true e = let z : ◌≡◌ {A = ℕ} 0 1 = cc in absurd (omega arith)
+    go : (a : Result Unit Refusal) → (finish_by s a).state.ended ≡ false → (finish_by s a).state ≡ s
+    go (Err r) e = refl
+    go (Ok u) e = let z : ◌≡◌ {A = ℕ} 0 1 = cc in absurd (omega arith)
 
 -- ---- a run over B is one over any bytes that begin with those taken
 

@@ -10,6 +10,7 @@ use lib.ListN.{length, take, drop, length-append, length-take, length-drop, leng
 use lib.Seq.{slice, take_at, take-add, take-take, drop-drop, length-take-le, length-slice, take-append-le}
 use lib.Dec.{leb}
 use borrow.Author.Tests.{leb-true, ltb-false}
+use Rattle.std.specs.Prelude.{Result, Ok, Err}
 use Rattle.reading.specs.Bytes.{line_ends}
 use Rattle.reading.specs.Reading.{first}
 use Rattle.reading.proofs.Lines.{line_ends-shift}
@@ -18,9 +19,9 @@ use Rattle.record.specs.declared.Noted.{Noted}
 use Rattle.record.specs.declared.Noted.TheVariants.{Zero, One, Two, Three, Four}
 use Rattle.record.specs.Noted.{listed}
 use Rattle.reader.specs.declared.Reader.{Reader}
-use Rattle.reader.specs.declared.Taken.{Taken}
+use Rattle.reader.specs.declared.Refusal.{Refusal}
 use Rattle.reader.specs.State.{most_bytes, own, Notes}
-use Rattle.reader.specs.Feed.{held_of, taken_of, notes_from, filled, front_of, moves, front_if, taking_by, taking_of, feed_by, feed_of, kept_by, landed_on, landed, fed_by, fed_window, ended_of, finish_by, finish_of}
+use Rattle.reader.specs.Feed.{held_of, taken_of, notes_from, filled, front_of, moves, front_if, taking_by, taking_of, ready_by, ready_of, feed_by, feed_of, kept_by, landed_on, landed, fed_by, fed_window, ended_of, finish_by, finish_of}
 use Rattle.reader.proofs.Nexting.{notes_mark}
 use Rattle.demands.specs.Runs.{took_of}
 use Rattle.demands.proofs.Standing.{Holds, Good, due_by, due, due_few}
@@ -34,16 +35,14 @@ pub record Kept (B : List ℕ) (s s' : Reader) (w' : List ℕ) (t' : ℕ) : Type
 
 pub finish_kept : (B : List ℕ) (s : Reader) (w : List ℕ) (t : ℕ) → Good B s w t → length B ≤ t → Kept B s (finish_of s (length w)).state w t
 unfolding finish_of
-finish_kept B s w t g e = go (own s (length w)) s.ended s.waiting
+finish_kept B s w t g e = go (ready_of s (length w))
   where
     stays : Kept B s s w t
     stays = record { good = g; same = λ n. refl }
 
-    go : (a b c : Bool) → Kept B s (finish_by s a b c).state w t
-    go false b c = stays
-    go true true c = stays
-    go true false false = stays
-    go true false true =
+    go : (a : Result Unit Refusal) → Kept B s (finish_by s a).state w t
+    go (Err r) = stays
+    go (Ok u) =
         let h = g.holds in
         record {
           good =
@@ -249,7 +248,7 @@ module _ (B : List ℕ) (s : Reader) (w chunk : List ℕ) (t : ℕ) (g : Good B 
       go true e = move_kept
       go false e = stay_kept e
 
-abbrev Keeps : List ℕ → Reader → List ℕ → List ℕ → ℕ → Reader → Taken → Type 0
+abbrev Keeps : List ℕ → Reader → List ℕ → List ℕ → ℕ → Reader → Result ℕ Refusal → Type 0
 Keeps B s w chunk t s' a = take (took_of a) chunk ≡ take (took_of a) (drop t B) → took_of a ≤ length (drop t B) → Kept B s s' (fed_by s w chunk a) (t + took_of a)
 
 -- FEED, refused or not: the bytes that were taken are the input's next ones
@@ -268,7 +267,7 @@ feed_kept B s w chunk t g = go (own s (length w)) s.ended refl s.waiting refl
     by e f true d c m = taking_kept B s w chunk t g f e c m (leb-true _ _ d)
     by e f false d c m = stays
 
-    go : (a b : Bool) → s.ended ≡ b → (d : Bool) → s.waiting ≡ d → Keeps B s w chunk t (feed_by s (length chunk) a b d).state (feed_by s (length chunk) a b d).answer
+    go : (a b : Bool) → s.ended ≡ b → (d : Bool) → s.waiting ≡ d → Keeps B s w chunk t (feed_by s (length chunk) (ready_by a b d)).state (feed_by s (length chunk) (ready_by a b d)).answer
     go false b e d f c m = stays
     go true true e d f c m = stays
     go true false e false f c m = stays
@@ -277,14 +276,12 @@ feed_kept B s w chunk t g = go (own s (length w)) s.ended refl s.waiting refl
 -- what a feed says that it took is within the chunk
 pub took_some : (s : Reader) (w n : ℕ) → took_of (feed_of s w n).answer ≤ n
 unfolding feed_of taking_of
-took_some s w n = go (own s w) s.ended s.waiting
+took_some s w n = go (ready_of s w)
   where
     by : (d : Bool) → took_of (taking_by s n d).answer ≤ n
     by true = omega arith
     by false = omega arith
 
-    go : (a b c : Bool) → took_of (feed_by s n a b c).answer ≤ n
-    go false b c = omega arith
-    go true true c = omega arith
-    go true false false = omega arith
-    go true false true = by (leb (s.byte.0 + held_of s + taken_of s n) most_bytes)
+    go : (a : Result Unit Refusal) → took_of (feed_by s n a).answer ≤ n
+    go (Err r) = omega arith
+    go (Ok u) = by (leb (s.byte.0 + held_of s + taken_of s n) most_bytes)

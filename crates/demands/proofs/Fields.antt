@@ -9,6 +9,7 @@ use mathlib.Core.List.{List}
 use lib.ListN.{length, get_or, take, drop}
 use lib.Seq.{slice, take-take, get_or-take, get_or-drop, length-take-le}
 use borrow.Author.Tests.{le-leb, eqb-true}
+use Rattle.std.specs.Prelude.{Result, Ok, Err}
 use Rattle.reading.specs.Bytes.{LF, AT, PLUS, byte_at, line_ends, trim_cr}
 use Rattle.reading.specs.Shift.{shift_five}
 use Rattle.reading.specs.Answer.{Five}
@@ -29,7 +30,8 @@ use Rattle.record.proofs.Views.{fits_facts}
 use Rattle.reader.specs.declared.Byte.{Byte}
 use Rattle.reader.specs.declared.Reader.{Reader}
 use Rattle.reader.specs.declared.Answer.{Answer}
-use Rattle.reader.specs.declared.Answer.TheVariants.{Record, More, WindowLimit, InvalidStart, InvalidSeparator, UnequalLengths, UnexpectedEnd, End, Refused}
+use Rattle.reader.specs.declared.Answer.TheVariants.{Record, More, WindowLimit, InvalidStart, InvalidSeparator, UnequalLengths, UnexpectedEnd, End}
+use Rattle.reader.specs.declared.Refusal.{Refusal}
 use Rattle.reader.specs.Next.{answer_of, settles, settled_by, decided_by, onward_by, onward_of, seeking_of, next_by, next_of}
 use Rattle.reader.specs.Seek.{base}
 use Rattle.reader.specs.State.{own}
@@ -104,28 +106,23 @@ unended_viewed B W p L n r e l =
 -- ---- the fields of a record that next answers
 
 -- the five numbers that next answers are those of a record within the held bytes
-abbrev pub Viewed : Reader → List ℕ → Answer → Type 0
-Viewed s w (Record r b) = (view_test (five_of r) (length w) ≡ true) × (r.end ≤ s.fill)
-Viewed s w More = Unit {0}
-Viewed s w (WindowLimit L b) = Unit {0}
-Viewed s w (InvalidStart x L) = Unit {0}
-Viewed s w (InvalidSeparator x L i) = Unit {0}
-Viewed s w (UnequalLengths n m L i) = Unit {0}
-Viewed s w (UnexpectedEnd L i) = Unit {0}
-Viewed s w End = Unit {0}
-Viewed s w (Refused k) = Unit {0}
+abbrev pub Viewed : Reader → List ℕ → Result Answer Refusal → Type 0
+Viewed s w (Ok (Record r b)) = (view_test (five_of r) (length w) ≡ true) × (r.end ≤ s.fill)
+Viewed s w (Ok More) = Unit {0}
+Viewed s w (Ok (WindowLimit L b)) = Unit {0}
+Viewed s w (Ok (InvalidStart x L)) = Unit {0}
+Viewed s w (Ok (InvalidSeparator x L i)) = Unit {0}
+Viewed s w (Ok (UnequalLengths n m L i)) = Unit {0}
+Viewed s w (Ok (UnexpectedEnd L i)) = Unit {0}
+Viewed s w (Ok End) = Unit {0}
+Viewed s w (Err r) = Unit {0}
 
-closing_viewed : (s : Reader) (w : List ℕ) (b : Byte) (a : read.Answer) → is_found a ≡ false → Viewed s w (answer_of b a)
+closing_viewed : (s : Reader) (w : List ℕ) (b : Byte) (a : read.Answer) → is_found a ≡ false → Viewed s w (Ok (answer_of b a))
 closing_viewed s w b (read.found r) e = let z : ◌≡◌ {A = ℕ} 0 1 = cc in absurd (omega arith)
-closing_viewed s w b (read.window_limit L p) e = tt
-closing_viewed s w b (read.invalid_start x L) e = tt
-closing_viewed s w b (read.invalid_separator x L i) e = tt
-closing_viewed s w b (read.unequal_lengths n m L i) e = tt
-closing_viewed s w b (read.unexpected_end L i) e = tt
-closing_viewed s w b read.ended e = tt
+closing_viewed s w b a e = tt
 
 module _ (B : List ℕ) (s : Reader) (w : List ℕ) (t : ℕ) (g : Good B s w t) (few : Searched s w) (open' : s.closed ≡ false) where
-  settled_viewed : (x : Step) → step_at (take s.fill w) s.window s.start s.line.0 ≡ x → Viewed s w (settled_by s.byte x).answer
+  settled_viewed : (x : Step) → step_at (take s.fill w) s.window s.start s.line.0 ≡ x → Viewed s w (Ok (settled_by s.byte x).answer)
   settled_viewed x e = go x e (subst (λ (y : Step). ClosesWell y) e (step_closes (take s.fill w) s.window s.start s.line.0))
     where
       fits : s.fill ≤ length w
@@ -134,7 +131,7 @@ module _ (B : List ℕ) (s : Reader) (w : List ℕ) (t : ℕ) (g : Good B s w t)
       long : length (take s.fill w) ≡ s.fill
       long = length-take-le s.fill w fits
 
-      go : (y : Step) → step_at (take s.fill w) s.window s.start s.line.0 ≡ y → ClosesWell y → Viewed s w (settled_by s.byte y).answer
+      go : (y : Step) → step_at (take s.fill w) s.window s.start s.line.0 ≡ y → ClosesWell y → Viewed s w (Ok (settled_by s.byte y).answer)
       go (onward r) f c = let v = onward_viewed (take s.fill w) s.window s.start s.line.0 (length w) r f (omega (arith, long, fits)) in (v.0, omega (arith, v.1, long))
       go (unended r) f c = let v = unended_viewed (take s.fill w) s.window s.start s.line.0 (length w) r f (omega (arith, long, fits)) in (v.0, omega (arith, v.1, long))
       go (closing a) f c = closing_viewed s w s.byte a c
@@ -142,38 +139,32 @@ module _ (B : List ℕ) (s : Reader) (w : List ℕ) (t : ℕ) (g : Good B s w t)
   seeking_viewed : Viewed s w (seeking_of s w).answer
   seeking_viewed = rw (seeking_is B s w t g few open') (go (settles (take s.fill w) s.window s.start s.ended (take 4 (line_ends s.start (slice s.start s.fill w)))))
     where
-      go : (b : Bool) → Viewed s w (decided_by (take s.fill w) s.window s.start s.line.0 s.byte (take 4 (line_ends s.start (slice s.start s.fill w))) b).answer
+      go : (b : Bool) → Viewed s w (Ok (decided_by (take s.fill w) s.window s.start s.line.0 s.byte (take 4 (line_ends s.start (slice s.start s.fill w))) b).answer)
       go true = rw (step_is B s w t g few open') (settled_viewed (step_at (take s.fill w) s.window s.start s.line.0) refl)
       go false = tt
+
+-- from a complete record to the one behind it the fill point stays
+fill_is : (s : Reader) (e : Noted) → (onward_by s e).fill ≡ s.fill
+fill_is s Zero = refl
+fill_is s (One a) = refl
+fill_is s (Two a b) = refl
+fill_is s (Three a b c) = refl
+fill_is s (Four a b c d) = refl
 
 -- what next answers of a reader that stands for a reading
 pub next_viewed : (B : List ℕ) (s : Reader) (w : List ℕ) (t : ℕ) → Good B s w t → Viewed s w (next_of s w).answer
 unfolding next_of
 next_viewed B s w t g = rw (good_owned B s w t g) (go s.closed refl)
   where
-    fill_is : (e : Noted) → (onward_by s e).fill ≡ s.fill
-    fill_is Zero = refl
-    fill_is (One a) = refl
-    fill_is (Two a b) = refl
-    fill_is (Three a b c) = refl
-    fill_is (Four a b c d) = refl
-
-    move : (n : ℕ) (a : Answer) → (onward_of s).fill ≡ n → Viewed (onward_of s) w a → n ≡ s.fill → Viewed s w a
-    move n (Record r b) e v q = (v.0, omega (arith, v.1))
-    move n More e v q = tt
-    move n (WindowLimit L b) e v q = tt
-    move n (InvalidStart x L) e v q = tt
-    move n (InvalidSeparator x L i) e v q = tt
-    move n (UnequalLengths x y L i) e v q = tt
-    move n (UnexpectedEnd L i) e v q = tt
-    move n End e v q = tt
-    move n (Refused k) e v q = tt
+    move : (n : ℕ) (a : Result Answer Refusal) → (onward_of s).fill ≡ n → Viewed (onward_of s) w a → n ≡ s.fill → Viewed s w a
+    move n (Ok (Record r b)) e v q = (v.0, omega (arith, v.1))
+    move n a e v q = tt
 
     go : (c : Bool) → s.closed ≡ c → Viewed s w (next_by s w true c).answer
     go true c = tt
     go false c =
         let o = onward_good B s w t g c in
-        move (onward_of s).fill (seeking_of (onward_of s) w).answer refl (seeking_viewed B (onward_of s) w t o.0 o.1 o.2) (fill_is s.noted)
+        move (onward_of s).fill (seeking_of (onward_of s) w).answer refl (seeking_viewed B (onward_of s) w t o.0 o.1 o.2) (fill_is s s.noted)
 
 -- held bytes are the input's
 module _ (B : List ℕ) (s : Reader) (w : List ℕ) (t : ℕ) (g : Good B s w t) where
@@ -198,17 +189,10 @@ pub next_fill : (s : Reader) (w : List ℕ) → (next_of s w).state.fill ≡ s.f
 unfolding next_of seeking_of
 next_fill s w = go (own s (length w)) s.closed
   where
-    on : (e : Noted) → (onward_by s e).fill ≡ s.fill
-    on Zero = refl
-    on (One a) = refl
-    on (Two a b) = refl
-    on (Three a b c) = refl
-    on (Four a b c d) = refl
-
     go : (a b : Bool) → (next_by s w a b).state.fill ≡ s.fill
     go false b = refl
     go true true = refl
-    go true false = on s.noted
+    go true false = fill_is s s.noted
 
 -- views of five numbers that pass the test, of a window that holds B's bytes
 views_shown : (B : List ℕ) (s : Reader) (w : List ℕ) (t : ℕ) → Good B s w t → (r : Five) → view_test r (length w) ≡ true → r.end ≤ s.fill → Shown B w r (shift_five (base s) r)
@@ -229,11 +213,11 @@ views_shown B s w t g r v h =
     text none a = refl
     text (some d) a = refl
 
-answer_viewed : (s : Reader) (w : List ℕ) (r : Rec) (y : Byte) (a : Answer) → a ≡ Record r y → Viewed s w a → (view_test (five_of r) (length w) ≡ true) × (r.end ≤ s.fill)
-answer_viewed s w r y a e v = subst (λ (x : Answer). Viewed s w x) e v
+answer_viewed : (s : Reader) (w : List ℕ) (r : Rec) (y : Byte) (a : Result Answer Refusal) → a ≡ Ok (Record r y) → Viewed s w a → (view_test (five_of r) (length w) ≡ true) × (r.end ≤ s.fill)
+answer_viewed s w r y a e v = subst (λ (x : Result Answer Refusal). Viewed s w x) e v
 
 -- DEMAND 2, FIELDS: at a record that next answers, the bytes that each view shows through the window are those of the reading's fields in the input.
-pub fields_are_the_readings : (B : List ℕ) (b : Bench) → Stands B b → (r : Rec) (y : Byte) → (next_of b.reader b.window).answer ≡ Record r y
+pub fields_are_the_readings : (B : List ℕ) (b : Bench) → Stands B b → (r : Rec) (y : Byte) → (next_of b.reader b.window).answer ≡ Ok (Record r y)
     → Shown B b.window (five_of r) (shift_five (base (next_of b.reader b.window).state) (five_of r))
 fields_are_the_readings B b g r y e =
     let v = answer_viewed b.reader b.window r y (next_of b.reader b.window).answer e (next_viewed B b.reader b.window b.taken g) in
@@ -242,7 +226,7 @@ fields_are_the_readings B b g r y e =
 
 -- WRITE-UNCHANGED: the bytes of the window from the start to the end of a record that next answers, which `write_unchanged` copies, are the record's own bytes
 -- of the input.
-pub record_bytes_are_the_inputs : (B : List ℕ) (b : Bench) → Stands B b → (r : Rec) (y : Byte) → (next_of b.reader b.window).answer ≡ Record r y
+pub record_bytes_are_the_inputs : (B : List ℕ) (b : Bench) → Stands B b → (r : Rec) (y : Byte) → (next_of b.reader b.window).answer ≡ Ok (Record r y)
     → slice r.start r.end b.window ≡ slice (base (next_of b.reader b.window).state + r.start) (base (next_of b.reader b.window).state + r.end) B
 record_bytes_are_the_inputs B b g r y e =
     let s = (next_of b.reader b.window).state in

@@ -9,16 +9,16 @@ use mathlib.Core.Bool.{true, false}
 use mathlib.Core.Logic.{◌⊎◌, inl, inr}
 use mathlib.Core.Option.{Option, some}
 use mathlib.Core.List.{List, [], ◌∷◌}
-use lib.ListN.{length, take, drop, length-append, length-take, length-drop}
+use lib.ListN.{length, take, drop, length-append, length-drop}
 use lib.Seq.{take-length}
+use Rattle.std.specs.Prelude.{Result, Ok, Err}
 use Rattle.reading.specs.Answer.{Told}
 use Rattle.reading.specs.Answer as read
 use Rattle.reading.specs.Reading.{first}
 use Rattle.reader.specs.declared.Reader.{Reader}
-use Rattle.reader.specs.declared.Opened.TheVariants.{Fresh}
-use Rattle.reader.specs.declared.Taken.TheVariants as taken
+use Rattle.reader.specs.declared.Refusal.{Refusal}
 use Rattle.reader.specs.declared.Answer.{Answer}
-use Rattle.reader.specs.declared.Answer.TheVariants.{Record, More, WindowLimit, InvalidStart, InvalidSeparator, UnequalLengths, UnexpectedEnd, End, Refused}
+use Rattle.reader.specs.declared.Answer.TheVariants.{More}
 use Rattle.reader.specs.State.{most_bytes, open_of, fresh_of}
 use Rattle.reader.specs.Feed.{held_of, taken_of, feed_of, taking_of, finish_of}
 use Rattle.reader.specs.Next.{next_of}
@@ -31,25 +31,23 @@ use Rattle.demands.specs.Runs.{heard_of, placed, add_to, took_of, Bench, fed, fi
 use Rattle.demands.proofs.Standing.{good_own, good_owned}
 use Rattle.demands.proofs.Chunks.{Stands, front_of_lem, call_step, step_stands, calls_steps, steps_stand, opened_stands, answers_are_the_readings}
 use Rattle.demands.proofs.Feeds.{took_some}
+use Rattle.demands.proofs.Refused.{next_near}
 use Rattle.demands.proofs.Early.{next_ended}
 
 -- ---- after the end is announced
 
 -- After the end is announced next never asks for input.
-pub no_request_after_the_end : (B : List ℕ) (b : Bench) → Stands B b → b.reader.ended ≡ true → (next_of b.reader b.window).answer ≡ More → ⊥
+pub no_request_after_the_end : (B : List ℕ) (b : Bench) → Stands B b → b.reader.ended ≡ true → (next_of b.reader b.window).answer ≡ Ok More → ⊥
 no_request_after_the_end B b g e f = ended_answers b.reader b.window (good_own B b.reader b.window b.taken g) e f
 
 -- ---- straight after a request
 
 -- (over plain numbers)
-near_by : (t n c b x m : ℕ) → n ≤ c → c ≤ x → x ≡ b - t → t ≤ m → b ≤ m → t + n ≤ m
-near_by t n c b x m h k e f g = omega arith
-
 falls_below : (b t n m : ℕ) → 0 < n → (b ≤ t → ⊥) → b - t < suc m → b - (t + n) < m
 falls_below b t n m h k l = omega arith
 
 -- the bench after a request
-module _ (B : List ℕ) (b : Bench) (g : Stands B b) (more : (next_of b.reader b.window).answer ≡ More) where
+module _ (B : List ℕ) (b : Bench) (g : Stands B b) (more : (next_of b.reader b.window).answer ≡ Ok More) where
   pub after : Stands B (asked b)
   after = step_stands (call_step (next {b = b})) g
 
@@ -58,7 +56,7 @@ module _ (B : List ℕ) (b : Bench) (g : Stands B b) (more : (next_of b.reader b
 
   -- DEMAND 3. "Straight after a request for input, a nonempty chunk short of the size limit loses at least one byte to us."
   pub a_byte_is_taken : (chunk : List ℕ) → 0 < length chunk → (asked b).reader.byte.0 + held_of (asked b).reader + taken_of (asked b).reader (length chunk) ≤ most_bytes
-      → (n : ℕ) × ((feed_of (asked b).reader (length b.window) (length chunk)).answer ≡ taken.Took n) × (0 < n)
+      → (n : ℕ) × ((feed_of (asked b).reader (length b.window) (length chunk)).answer ≡ Ok n) × (0 < n)
   unfolding feed_of taking_of
   a_byte_is_taken chunk nonempty near =
       let o = good_owned B (asked b).reader b.window b.taken after in (
@@ -67,19 +65,10 @@ module _ (B : List ℕ) (b : Bench) (g : Stands B b) (more : (next_of b.reader b
         omega (arith, wants.room),
       )
 
-  -- the input's next bytes do not pass the size limit
-  next_near : (chunk : List ℕ) → chunk ≡ take (length chunk) (drop b.taken B) → length B ≤ most_bytes
-      → (asked b).reader.byte.0 + held_of (asked b).reader + taken_of (asked b).reader (length chunk) ≤ most_bytes
-  next_near chunk q small =
-      let h = after.holds in
-      let m : length chunk ≤ length (drop b.taken B) = omega (arith, ap length q, length-take (length chunk) (drop b.taken B)) in
-      let reached : (asked b).reader.byte.0 + held_of (asked b).reader ≡ b.taken = omega (arith, h.reached, h.start_byte, h.start_fill) in
-      rw reached (near_by b.taken (taken_of (asked b).reader (length chunk)) (length chunk) (length B) (length (drop b.taken B)) most_bytes (omega arith) m (length-drop b.taken B) h.near small)
-
-  -- so of a nonempty chunk of them at least one is taken
+  -- so of a nonempty chunk of the input's next bytes at least one is taken
   pub takes : (chunk : List ℕ) → 0 < length chunk → chunk ≡ take (length chunk) (drop b.taken B) → length B ≤ most_bytes
       → 0 < took_of (feed_of (asked b).reader (length b.window) (length chunk)).answer
-  takes chunk nonempty q small = let t = a_byte_is_taken chunk nonempty (next_near chunk q small) in rw t.1 t.2
+  takes chunk nonempty q small = let t = a_byte_is_taken chunk nonempty (next_near B (asked b) after small chunk q) in rw t.1 t.2
 
   -- and finish is accepted
   pub finish_accepted : (finish_of (asked b).reader (length b.window)).state.ended ≡ true
@@ -93,16 +82,10 @@ calls_join x here = x
 calls_join x (then y c) = then (calls_join x y) c
 
 -- an answer that is neither a request nor a refusal is heard
-heard_else : (k : ℕ) (a : Answer) → (a ≡ More) ⊎ (((n : ℕ) × (a ≡ Refused n)) ⊎ ((x : read.Answer) × (heard_of k a ≡ some x)))
-heard_else k (Record r b) = inr (inr (_, refl))
-heard_else k More = inl refl
-heard_else k (WindowLimit L b) = inr (inr (_, refl))
-heard_else k (InvalidStart x L) = inr (inr (_, refl))
-heard_else k (InvalidSeparator x L i) = inr (inr (_, refl))
-heard_else k (UnequalLengths n m L i) = inr (inr (_, refl))
-heard_else k (UnexpectedEnd L i) = inr (inr (_, refl))
-heard_else k End = inr (inr (_, refl))
-heard_else k (Refused n) = inr (inl (n, refl))
+heard_else : (k : ℕ) (a : Result Answer Refusal) → (a ≡ Ok More) ⊎ (((r : Refusal) × (a ≡ Err r)) ⊎ ((x : read.Answer) × (heard_of k a ≡ some x)))
+heard_else k (Ok More) = inl refl
+heard_else k (Err r) = inr (inl (r, refl))
+heard_else k a = inr (inr (_, refl))
 
 -- from here a bench can be brought to its next answer
 record Leads (B : List ℕ) (b : Bench) : Type 0 where
@@ -115,12 +98,12 @@ one_more ts s a x e = rw e (length-append ts (placed s x ∷ []) ∙ omega arith
 
 module _ (B : List ℕ) (small : length B ≤ most_bytes) where
   -- next answers, or asks
-  asks_or_leads : (b : Bench) → Stands B b → ((next_of b.reader b.window).answer ≡ More) ⊎ Leads B b
+  asks_or_leads : (b : Bench) → Stands B b → ((next_of b.reader b.window).answer ≡ Ok More) ⊎ Leads B b
   asks_or_leads b g = go (heard_else (base (next_of b.reader b.window).state) (next_of b.reader b.window).answer)
     where
-      go : ((next_of b.reader b.window).answer ≡ More)
-          ⊎ (((n : ℕ) × ((next_of b.reader b.window).answer ≡ Refused n)) ⊎ ((x : read.Answer) × (heard_of (base (next_of b.reader b.window).state) (next_of b.reader b.window).answer ≡ some x)))
-          → ((next_of b.reader b.window).answer ≡ More) ⊎ Leads B b
+      go : ((next_of b.reader b.window).answer ≡ Ok More)
+          ⊎ (((r : Refusal) × ((next_of b.reader b.window).answer ≡ Err r)) ⊎ ((x : read.Answer) × (heard_of (base (next_of b.reader b.window).state) (next_of b.reader b.window).answer ≡ some x)))
+          → ((next_of b.reader b.window).answer ≡ Ok More) ⊎ Leads B b
       go (inl e) = inl e
       go (inr (inl (n, e))) =
           let o = good_owned B b.reader b.window b.taken g in
@@ -133,7 +116,7 @@ module _ (B : List ℕ) (small : length B ≤ most_bytes) where
   ended_leads : (b : Bench) → Stands B b → b.reader.ended ≡ true → Leads B b
   ended_leads b g e = go (asks_or_leads b g)
     where
-      go : ((next_of b.reader b.window).answer ≡ More) ⊎ Leads B b → Leads B b
+      go : ((next_of b.reader b.window).answer ≡ Ok More) ⊎ Leads B b → Leads B b
       go (inl f) = absurd (no_request_after_the_end B b g e f)
       go (inr l) = l
 
@@ -145,10 +128,10 @@ module _ (B : List ℕ) (small : length B ≤ most_bytes) where
       on c x q l = record { to = l.to; calls = calls_join x l.calls; one = l.one ∙ ap suc q }
 
       -- nothing is heard by a request
-      silent : (next_of b.reader b.window).answer ≡ More → length (asked b).heard ≡ length b.heard
+      silent : (next_of b.reader b.window).answer ≡ Ok More → length (asked b).heard ≡ length b.heard
       silent f = rw f
 
-      rest : (next_of b.reader b.window).answer ≡ More → Dec (length B ≤ b.taken) → ((c : Bench) → Stands B c → length B - c.taken < m → Leads B c) → Leads B b
+      rest : (next_of b.reader b.window).answer ≡ Ok More → Dec (length B ≤ b.taken) → ((c : Bench) → Stands B c → length B - c.taken < m → Leads B c) → Leads B b
       rest f (yes k) again =
           let c : Bench = finished (asked b) in
           let x : Calls B b c = then (then here next) (finish k) in
@@ -161,7 +144,7 @@ module _ (B : List ℕ) (small : length B ≤ most_bytes) where
           on c (then (then here next) (feed chunk q)) (silent f)
           (again c (step_stands (call_step (feed {b = asked b} chunk q)) (after B b g f)) (falls_below (length B) b.taken _ m (takes B b g f chunk nonempty q small) k h))
 
-      go : ((next_of b.reader b.window).answer ≡ More) ⊎ Leads B b → ((c : Bench) → Stands B c → length B - c.taken < m → Leads B c) → Leads B b
+      go : ((next_of b.reader b.window).answer ≡ Ok More) ⊎ Leads B b → ((c : Bench) → Stands B c → length B - c.taken < m → Leads B c) → Leads B b
       go (inl f) again = rest f (dec_le (length B) b.taken) again
       go (inr l) again = l
 
@@ -178,7 +161,7 @@ pub fresh_bench : ℕ → List ℕ → Bench
 fresh_bench W w = record { reader = fresh_of W; window = w; taken = 0; heard = [] }
 
 -- NOTHING IS HELD BACK: for every n there is a run whose answers are the first n of the reading.
-pub every_answer_is_reached : (B : List ℕ) (W : ℕ) (w : List ℕ) → length B ≤ most_bytes → open_of W ≡ Fresh (fresh_of W) → length w ≡ W → (n : ℕ)
+pub every_answer_is_reached : (B : List ℕ) (W : ℕ) (w : List ℕ) → length B ≤ most_bytes → open_of W ≡ Ok (fresh_of W) → length w ≡ W → (n : ℕ)
     → (b : Bench) × Run B W b × (b.heard ≡ first n B W 0 1)
 unfolding fresh_bench
 every_answer_is_reached B W w small o e n =
@@ -209,10 +192,10 @@ module _ (B : List ℕ) (small : length B ≤ most_bytes) (b : Bench) (k : ℕ) 
       }
 
   -- a request comes before the end is noted
-  open_count : (next_of b.reader b.window).answer ≡ More → k ≤ b.taken
+  open_count : (next_of b.reader b.window).answer ≡ Ok More → k ≤ b.taken
   open_count f = c.fewer (sym (next_ended b.reader b.window) ∙ (wants B b c.stands f).goes_on)
 
-  served_counted : (next_of b.reader b.window).answer ≡ More → (chunk : List ℕ) → 0 < length chunk → chunk ≡ take (length chunk) (drop b.taken B) → Counted B (fed (asked b) chunk) (suc k)
+  served_counted : (next_of b.reader b.window).answer ≡ Ok More → (chunk : List ℕ) → 0 < length chunk → chunk ≡ take (length chunk) (drop b.taken B) → Counted B (fed (asked b) chunk) (suc k)
   served_counted f chunk nonempty q =
       let t = takes B b c.stands f chunk nonempty q small in
       let s = (front_of_lem B chunk b.taken (took_of (feed_of (asked b).reader (length b.window) (length chunk)).answer) (took_some (asked b).reader (length b.window) (length chunk)) q).1 in
@@ -224,7 +207,7 @@ module _ (B : List ℕ) (small : length B ≤ most_bytes) (b : Bench) (k : ℕ) 
         fewer = λ e. omega (arith, t, n);
       }
 
-  closed_counted : (next_of b.reader b.window).answer ≡ More → length B ≤ b.taken → Counted B (finished (asked b)) (suc k)
+  closed_counted : (next_of b.reader b.window).answer ≡ Ok More → length B ≤ b.taken → Counted B (finished (asked b)) (suc k)
   closed_counted f q =
       let n = open_count f in
       record {

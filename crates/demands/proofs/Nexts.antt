@@ -10,6 +10,7 @@ use lib.ListN.{length, get_or, take, drop, length-take, length-drop, take-append
 use lib.Seq.{slice, length-slice, drop-append-le, take_all, length-take-le, take-take}
 use lib.Dec.{leb}
 use borrow.Author.Tests.{leb-true, leb-false, le-leb, lt-leb}
+use Rattle.std.specs.Prelude.{Result, Ok, Err}
 use Rattle.reading.specs.Bytes.{line_ends}
 use Rattle.reading.specs.Answer.{Five, Id, absent, range, found, window_limit, invalid_start, invalid_separator, unequal_lengths, unexpected_end, ended, Told, told}
 use Rattle.reading.specs.Answer as read
@@ -26,12 +27,13 @@ use Rattle.record.specs.declared.Noted.{Noted}
 use Rattle.record.specs.declared.Noted.TheVariants.{Zero, One, Two, Three, Four}
 use Rattle.record.specs.declared.Sought.{Sought}
 use Rattle.record.specs.Noted.{listed, after, gathered, sought_of}
-use Rattle.record.specs.Check.{range_of}
+use Rattle.record.specs.Check.{span_of}
 use Rattle.reader.specs.declared.Byte.{Byte}
 use Rattle.reader.specs.declared.Reader.{Reader}
 use Rattle.reader.specs.declared.Answer.{Answer}
-use Rattle.reader.specs.declared.Answer.TheVariants.{Record, More, WindowLimit, InvalidStart, InvalidSeparator, UnequalLengths, UnexpectedEnd, End, Refused}
-use Rattle.reader.specs.declared.Next.{Next}
+use Rattle.reader.specs.declared.Answer.TheVariants.{Record, More, WindowLimit, InvalidStart, InvalidSeparator, UnequalLengths, UnexpectedEnd, End}
+use Rattle.reader.specs.declared.Refusal.{Refusal}
+use Rattle.reader.specs.declared.Outcome.{Outcome}
 use Rattle.reader.specs.State.{state_of, Notes}
 use Rattle.reader.specs.Next.{answer_of, settles, settled_by, decided_by, decided_of, onward_of, next_with, searched_of, seeking_of, closed_of, next_by, next_of}
 use Rattle.reader.specs.Seek.{base}
@@ -41,12 +43,12 @@ use Rattle.demands.proofs.Standing.{Holds, Searched, Good, good_owned, due_by, d
 
 -- ---- an answer of a step, heard in absolute offsets
 
-id_back : (i : Id) → id_of (range_of i) ≡ i
+id_back : (i : Id) → id_of (span_of i) ≡ i
 id_back absent = refl
 id_back (range a b) = refl
 
 -- the reading's answer, shifted; window limit tells the absolute offset that it was given
-heard_answer : (k b p L : ℕ) (a : read.Answer) → b ≡ k + p → (is_limit a ≡ true → a ≡ window_limit L p) → heard_of k (answer_of (record { 0 = b }) a) ≡ some (shift k a)
+heard_answer : (k b p L : ℕ) (a : read.Answer) → b ≡ k + p → (is_limit a ≡ true → a ≡ window_limit L p) → heard_of k (Ok (answer_of (record { 0 = b }) a)) ≡ some (shift k a)
 heard_answer k b p L (found r) e f = refl
 heard_answer k b p L (window_limit M q) e f = let g : window_limit M q ≡ window_limit L p = f refl in let h : q ≡ p = cc in rw (e, h)
 heard_answer k b p L (invalid_start x M) e f = refl
@@ -110,7 +112,7 @@ abbrev pub Gives : ℕ → List ℕ → Reader → Reader → Option read.Answer
 Gives n B s s' none = due n B s ≡ due n B s'
 Gives n B s s' (some a) = due (suc n) B s ≡ placed s' a ∷ due n B s'
 
-pub record Served (B : List ℕ) (s : Reader) (w : List ℕ) (t : ℕ) (r : Next) : Type 0 where
+pub record Served (B : List ℕ) (s : Reader) (w : List ℕ) (t : ℕ) (r : Outcome Answer) : Type 0 where
   pub good : Good B r.state w t
   pub gives : (n : ℕ) → Gives n B s r.state (heard_of (base r.state) r.answer)
 
@@ -242,7 +244,7 @@ module _ (B : List ℕ) (s : Reader) (w : List ℕ) (t : ℕ) (g : Good B s w t)
         gives = λ n. due_first (suc n) ∙ first_suc n B s.window s.byte.0 s.line.0 ∙ rw f;
       }
   settle_served (closing a) e f =
-      let p : heard_of (base s) (answer_of s.byte a) ≡ some (shift (base s) a) =
+      let p : heard_of (base s) (Ok (answer_of s.byte a)) ≡ some (shift (base s) a) =
       heard_answer (base s) s.byte.0 s.start s.line.0 a (omega (arith, h.start_byte)) (limit_here H s.window s.start s.line.0 a e) in
       record {
         good = closed_good false refl;
@@ -273,25 +275,20 @@ module _ (B : List ℕ) (s : Reader) (w : List ℕ) (t : ℕ) (g : Good B s w t)
 
 -- what the state is after an answer that is a record: it starts where the record does; if the reading is open, all four line ends are noted;
 -- if it is closed, the end is noted, and fewer are
-abbrev pub Hand : Reader → Answer → Type 0
-Hand s (Record r b) = (r.start ≡ s.start) × (s.closed ≡ false → 4 ≤ length (listed s.noted)) × (s.closed ≡ true → (s.ended ≡ true) × (length (listed s.noted) < 4))
-Hand s More = Unit {0}
-Hand s (WindowLimit L b) = Unit {0}
-Hand s (InvalidStart x L) = Unit {0}
-Hand s (InvalidSeparator x L i) = Unit {0}
-Hand s (UnequalLengths n m L i) = Unit {0}
-Hand s (UnexpectedEnd L i) = Unit {0}
-Hand s End = Unit {0}
-Hand s (Refused k) = Unit {0}
+abbrev pub Hand : Reader → Result Answer Refusal → Type 0
+Hand s (Ok (Record r b)) = (r.start ≡ s.start) × (s.closed ≡ false → 4 ≤ length (listed s.noted)) × (s.closed ≡ true → (s.ended ≡ true) × (length (listed s.noted) < 4))
+Hand s (Ok More) = Unit {0}
+Hand s (Ok (WindowLimit L b)) = Unit {0}
+Hand s (Ok (InvalidStart x L)) = Unit {0}
+Hand s (Ok (InvalidSeparator x L i)) = Unit {0}
+Hand s (Ok (UnequalLengths n m L i)) = Unit {0}
+Hand s (Ok (UnexpectedEnd L i)) = Unit {0}
+Hand s (Ok End) = Unit {0}
+Hand s (Err r) = Unit {0}
 
-closing_hand : (s : Reader) (b : Byte) (a : read.Answer) → is_found a ≡ false → Hand s (answer_of b a)
+closing_hand : (s : Reader) (b : Byte) (a : read.Answer) → is_found a ≡ false → Hand s (Ok (answer_of b a))
 closing_hand s b (found r) e = let z : ◌≡◌ {A = ℕ} 0 1 = cc in absurd (omega arith)
-closing_hand s b (window_limit L p) e = tt
-closing_hand s b (invalid_start x L) e = tt
-closing_hand s b (invalid_separator x L i) e = tt
-closing_hand s b (unequal_lengths n m L i) e = tt
-closing_hand s b (unexpected_end L i) e = tt
-closing_hand s b ended e = tt
+closing_hand s b a e = tt
 
 module _ (B : List ℕ) (s : Reader) (w : List ℕ) (t : ℕ) (g : Good B s w t) (few : Searched s w) (open' : s.closed ≡ false) where
   -- a record with no final LF is answered once the end is noted
@@ -304,7 +301,7 @@ module _ (B : List ℕ) (s : Reader) (w : List ℕ) (t : ℕ) (g : Good B s w t)
 
   settled_hand : (x : Step) → step_at (take s.fill w) s.window s.start s.line.0 ≡ x → ClosesWell x
       → settles (take s.fill w) s.window s.start s.ended (take 4 (line_ends s.start (slice s.start s.fill w))) ≡ true
-      → Hand (next_with s (gathered s.fill (line_ends s.start (slice s.start s.fill w))) (settled_by s.byte x)).state (settled_by s.byte x).answer
+      → Hand (next_with s (gathered s.fill (line_ends s.start (slice s.start s.fill w))) (settled_by s.byte x)).state (Ok (settled_by s.byte x).answer)
   settled_hand (onward r) e c d =
       let o = step_onward (take s.fill w) s.window s.start s.line.0 r e in
       let many : 4 ≤ length (line_ends s.start (slice s.start s.fill w)) = rw (all_seen B s w t g few open') o.ended in
@@ -322,7 +319,7 @@ module _ (B : List ℕ) (s : Reader) (w : List ℕ) (t : ℕ) (g : Good B s w t)
     where
       go : (b : Bool) → settles (take s.fill w) s.window s.start s.ended (take 4 (line_ends s.start (slice s.start s.fill w))) ≡ b
           → Hand (next_with s (gathered s.fill (line_ends s.start (slice s.start s.fill w))) (decided_by (take s.fill w) s.window s.start s.line.0 s.byte (take 4 (line_ends s.start (slice s.start s.fill w))) b)).state
-          (decided_by (take s.fill w) s.window s.start s.line.0 s.byte (take 4 (line_ends s.start (slice s.start s.fill w))) b).answer
+          (Ok (decided_by (take s.fill w) s.window s.start s.line.0 s.byte (take 4 (line_ends s.start (slice s.start s.fill w))) b).answer)
       go true d =
           rw (step_is B s w t g few open')
           (settled_hand (step_at (take s.fill w) s.window s.start s.line.0) refl (step_closes (take s.fill w) s.window s.start s.line.0) d)

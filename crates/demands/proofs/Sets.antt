@@ -5,11 +5,13 @@ use native.Mathlib.Omega.{arith}
 use native.Mathlib.Nat.{zero-add, suc-add, add-zero, le_refl}
 use mathlib.Core.Path.{◌≡◌, refl, sym, ap, ◌∙◌, subst}
 use mathlib.Core.Bool.{Bool, true, false}
-use mathlib.Core.Option.{Option, none, some}
+use mathlib.Core.Option as math
+use mathlib.Core.Option.{none, some}
 use mathlib.Core.List.{List, [], ◌∷◌, ◌++◌, append_assoc, append-nil}
 use lib.ListN.{length, drop, length-append, length-drop, length-map}
 use lib.Seq.{slice_empty}
 use lib.Dec.{eqb}
+use Rattle.std.specs.Prelude.{Option, Some, None, Result, Ok, Err}
 use Rattle.reading.specs.Bytes.{line_ends}
 use Rattle.reading.specs.Answer.{found, ended, Told, told}
 use Rattle.reading.specs.Answer as read
@@ -23,16 +25,16 @@ use Rattle.record.specs.Check.{five_of}
 use Rattle.record.proofs.Views.{fits_facts}
 use Rattle.reader.specs.declared.Reader.{Reader}
 use Rattle.reader.specs.declared.Answer.{Answer}
-use Rattle.reader.specs.declared.Answer.TheVariants.{Record, More, WindowLimit, InvalidStart, InvalidSeparator, UnequalLengths, UnexpectedEnd, End, Refused}
+use Rattle.reader.specs.declared.Answer.TheVariants.{Record}
+use Rattle.reader.specs.declared.Refusal.{Refusal}
 use Rattle.reader.specs.State.{own, Notes}
 use Rattle.reader.specs.Next.{next_of}
 use Rattle.reader.specs.declared.Position.{Position}
 use Rattle.reader.specs.Seek.{base, seek_of}
-use Rattle.sets.specs.declared.Row.{Row}
-use Rattle.sets.specs.declared.Row.TheVariants.{Of, No}
-use Rattle.sets.specs.declared.Listed.{Listed}
+use Rattle.reader.specs.declared.Outcome.{Outcome}
+use Rattle.sets.specs.declared.Reply.{Reply}
 use Rattle.sets.specs.declared.Reply.TheVariants.{Count}
-use Rattle.sets.specs.Sets.{row_in, Collected, collected_by, collected, next_start, after_of, listed_by, listed_of, set_by, set_of, records_of}
+use Rattle.sets.specs.Sets.{row_in, other_of, Collected, collected_by, collected, next_start, after_of, listed_by, listed_of, set_by, set_of, records_of}
 use Rattle.demands.specs.Runs.{heard_of, placed, add_to, Bench, fed, finished, asked, Call, Calls, Opened, is_refused, sought}
 use Rattle.demands.specs.Sets.{listed_as, heard_by, listing, Mixed, start, call, list, Wanders, rests, calls, lists, moves, answers}
 use Rattle.demands.proofs.Standing.{Good, due_by, due, due_zero}
@@ -50,21 +52,14 @@ record InHand (s : Reader) : Type 0 where
   over : s.closed ≡ true → (s.ended ≡ true) × (length (listed s.noted) < 4)
   long : s.start + 4 ≤ s.fill
 
-hand_of : (B : List ℕ) (s : Reader) (w : List ℕ) (t : ℕ) → Good B s w t → (r : Rec) → row_in (next_of s w).answer ≡ Of r → InHand (next_of s w).state
+hand_of : (B : List ℕ) (s : Reader) (w : List ℕ) (t : ℕ) → Good B s w t → (r : Rec) → row_in (next_of s w).answer ≡ Some r → InHand (next_of s w).state
 hand_of B s w t g r = go (next_of s w).answer (next_hand B s w t g) (next_viewed B s w t g)
   where
-    go : (a : Answer) → Hand (next_of s w).state a → Viewed s w a → row_in a ≡ Of r → InHand (next_of s w).state
-    go (Record x b) h v e =
+    go : (a : Result Answer Refusal) → Hand (next_of s w).state a → Viewed s w a → row_in a ≡ Some r → InHand (next_of s w).state
+    go (Ok (Record x b)) h v e =
         let f = fits_facts (five_of x) (length w) v.0 in
         record { whole = h.1; over = h.2; long = omega (arith, f, h.0, v.1, next_fill s w) }
-    go More h v e = let z : ◌≡◌ {A = ℕ} 0 1 = cc in absurd (omega arith)
-    go (WindowLimit L b) h v e = let z : ◌≡◌ {A = ℕ} 0 1 = cc in absurd (omega arith)
-    go (InvalidStart x L) h v e = let z : ◌≡◌ {A = ℕ} 0 1 = cc in absurd (omega arith)
-    go (InvalidSeparator x L i) h v e = let z : ◌≡◌ {A = ℕ} 0 1 = cc in absurd (omega arith)
-    go (UnequalLengths n m L i) h v e = let z : ◌≡◌ {A = ℕ} 0 1 = cc in absurd (omega arith)
-    go (UnexpectedEnd L i) h v e = let z : ◌≡◌ {A = ℕ} 0 1 = cc in absurd (omega arith)
-    go End h v e = let z : ◌≡◌ {A = ℕ} 0 1 = cc in absurd (omega arith)
-    go (Refused k) h v e = let z : ◌≡◌ {A = ℕ} 0 1 = cc in absurd (omega arith)
+    go a h v e = let z : ◌≡◌ {A = ℕ} 0 1 = cc in absurd (omega arith)
 
 -- n Ends are n Ends, wherever
 ends_answers : (n L p M q : ℕ) → answers (ends n L p) ≡ answers (ends n M q)
@@ -156,16 +151,9 @@ record Gathered (B : List ℕ) (s : Reader) (w : List ℕ) (t : ℕ) (c : Collec
   stays : length c.records ≡ 0 → c.state ≡ s
   hand : 0 < length c.records → InHand c.state
 
-heard_row : (k : ℕ) (a : Answer) (r : Rec) → row_in a ≡ Of r → heard_of k a ≡ some (found (shift_five k (five_of r)))
-heard_row k (Record x b) r e = let f : x ≡ r = cc in rw f
-heard_row k More r e = let z : ◌≡◌ {A = ℕ} 0 1 = cc in absurd (omega arith)
-heard_row k (WindowLimit L b) r e = let z : ◌≡◌ {A = ℕ} 0 1 = cc in absurd (omega arith)
-heard_row k (InvalidStart x L) r e = let z : ◌≡◌ {A = ℕ} 0 1 = cc in absurd (omega arith)
-heard_row k (InvalidSeparator x L i) r e = let z : ◌≡◌ {A = ℕ} 0 1 = cc in absurd (omega arith)
-heard_row k (UnequalLengths n m L i) r e = let z : ◌≡◌ {A = ℕ} 0 1 = cc in absurd (omega arith)
-heard_row k (UnexpectedEnd L i) r e = let z : ◌≡◌ {A = ℕ} 0 1 = cc in absurd (omega arith)
-heard_row k End r e = let z : ◌≡◌ {A = ℕ} 0 1 = cc in absurd (omega arith)
-heard_row k (Refused n) r e = let z : ◌≡◌ {A = ℕ} 0 1 = cc in absurd (omega arith)
+heard_row : (k : ℕ) (a : Result Answer Refusal) (r : Rec) → row_in a ≡ Some r → heard_of k a ≡ some (found (shift_five k (five_of r)))
+heard_row k (Ok (Record x b)) r e = let f : x ≡ r = cc in rw f
+heard_row k a r e = let z : ◌≡◌ {A = ℕ} 0 1 = cc in absurd (omega arith)
 
 none_gathered : (B : List ℕ) (s : Reader) (w : List ℕ) (t : ℕ) → Good B s w t → Gathered B s w t (record { records = []; state = s })
 none_gathered B s w t g = record { good = g; here = refl; due_then = λ m. rw zero-add; stays = λ x. refl; hand = λ x. absurd (omega arith) }
@@ -175,7 +163,7 @@ hand_behind : (rs : List Rec) (s u : Reader) → InHand s → (length rs ≡ 0 �
 hand_behind [] s u i e h = subst (λ (x : Reader). InHand x) (sym (e refl)) i
 hand_behind (r ∷ rs) s u i e h = h (omega arith)
 
-one_gathered : (B : List ℕ) (s : Reader) (w : List ℕ) (t : ℕ) → Good B s w t → (r : Rec) → row_in (next_of s w).answer ≡ Of r → (c : Collected) → Gathered B (next_of s w).state w t c
+one_gathered : (B : List ℕ) (s : Reader) (w : List ℕ) (t : ℕ) → Good B s w t → (r : Rec) → row_in (next_of s w).answer ≡ Some r → (c : Collected) → Gathered B (next_of s w).state w t c
     → Gathered B s w t (record { records = r ∷ c.records; state = c.state })
 one_gathered B s w t g r e c d =
     let u : Reader = (next_of s w).state in
@@ -186,7 +174,7 @@ one_gathered B s w t g r e c d =
       here = d.here ∙ b;
       due_then = λ m.
           let v : due (suc (length c.records + m)) B s ≡ placed u (found (shift_five (base u) (five_of r))) ∷ due (length c.records + m) B u =
-          subst (λ (x : Option read.Answer). Gives (length c.records + m) B s u x) q ((next_served B s w t g).gives (length c.records + m)) in
+          subst (λ (x : math.Option read.Answer). Gives (length c.records + m) B s u x) q ((next_served B s w t g).gives (length c.records + m)) in
           ap (λ (k : ℕ). answers (due k B s)) (suc-add (length c.records) m)
           ∙ ap answers v
           ∙ ap (λ (l : List read.Answer). found (shift_five (base u) (five_of r)) ∷ l) (d.due_then m)
@@ -201,10 +189,10 @@ unfolding collected
 gathered zero B s w t g = none_gathered B s w t g
 gathered (suc n) B s w t g = go (row_in (next_of s w).answer) refl (gathered n B (next_of s w).state w t (next_served B s w t g).good)
   where
-    go : (x : Row) → row_in (next_of s w).answer ≡ x → Gathered B (next_of s w).state w t (collected n (next_of s w).state w)
+    go : (x : Option Rec) → row_in (next_of s w).answer ≡ x → Gathered B (next_of s w).state w t (collected n (next_of s w).state w)
         → Gathered B s w t (collected_by (λ u. collected n u w) s (next_of s w).state x)
-    go No e d = none_gathered B s w t g
-    go (Of r) e d = one_gathered B s w t g r e (collected n (next_of s w).state w) d
+    go None e d = none_gathered B s w t g
+    go (Some r) e d = one_gathered B s w t g r e (collected n (next_of s w).state w) d
 
 -- ---- a set call in a run
 
@@ -240,7 +228,7 @@ asked_hears B b g =
     let v = next_served B b.reader b.window b.taken g in
     record { stands = v.good; tells = λ n. go n (heard_of (base r.state) r.answer) v.gives }
   where
-    go : (n : ℕ) (a : Option read.Answer) → ((m : ℕ) → Gives m B b.reader (next_of b.reader b.window).state a)
+    go : (n : ℕ) (a : math.Option read.Answer) → ((m : ℕ) → Gives m B b.reader (next_of b.reader b.window).state a)
         → (k : ℕ) × (length (add_to b.heard (next_of b.reader b.window).state a) ≡ length b.heard + k)
         × (answers (add_to b.heard (next_of b.reader b.window).state a ++ due n B (next_of b.reader b.window).state) ≡ answers b.heard ++ answers (due (k + n) B b.reader))
     go n none f = (
@@ -281,11 +269,16 @@ listed_hears B b g c d some' L =
       );
     }
 
+-- next's answer, heard of a set call that lists no record
+other_heard : (ts : List Told) (s : Reader) (a : Result Answer Refusal) → heard_by ts s [] (other_of a) ≡ add_to ts s (heard_of (base s) a)
+other_heard ts s (Ok a) = refl
+other_heard ts s (Err r) = refl
+
 -- by the records that were collected
 collected_hears : (B : List ℕ) (b : Bench) → Stands B b → (c : Collected) → Gathered B b.reader b.window b.taken c → (rs : List Rec) → c.records ≡ rs
-    → (l : Listed) → l ≡ listed_by (length rs) (next_of b.reader b.window) c.state
+    → (l : Outcome Reply) → l ≡ listed_by (length rs) (next_of b.reader b.window) c.state
     → Hears B b (record { reader = l.state; window = b.window; taken = b.taken; heard = heard_by b.heard l.state rs l.answer })
-collected_hears B b g c d [] e l q = rw q (asked_hears B b g)
+collected_hears B b g c d [] e l q = rw (q, other_heard) (asked_hears B b g)
 collected_hears B b g c d (r ∷ rs) e l q =
     rw (q, ← e)
     (listed_hears B b g c d (rw e (omega arith)) ((after_of c.state).line.0 - 4 * suc (length rs)))
@@ -349,17 +342,21 @@ mixed_answers_are_the_readings B W a b o x =
 -- ---- the position after a set call
 
 -- a set call that answers a count leaves the state behind the last record that it collected
-set_state : (s : Reader) (w : List ℕ) (room wanted k : ℕ) → (set_of s w room wanted).answer ≡ Count k
+set_state : (s : Reader) (w : List ℕ) (room wanted k : ℕ) → (set_of s w room wanted).answer ≡ Ok (Count k)
     → (0 < length (collected (min wanted room) s w).records) × ((set_of s w room wanted).state ≡ after_of (collected (min wanted room) s w).state)
 unfolding set_of
 set_state s w room wanted k = go (own s (length w)) (eqb (min wanted room) 0)
   where
-    by : (n : ℕ) → (listed_by n (next_of s w) (collected (min wanted room) s w).state).answer ≡ Count k
+    uncounted : (a : Result Answer Refusal) → other_of a ≡ Ok (Count k) → ⊥
+    uncounted (Ok a) e = let z : ◌≡◌ {A = ℕ} 0 1 = cc in omega arith
+    uncounted (Err r) e = let z : ◌≡◌ {A = ℕ} 0 1 = cc in omega arith
+
+    by : (n : ℕ) → (listed_by n (next_of s w) (collected (min wanted room) s w).state).answer ≡ Ok (Count k)
         → (0 < n) × ((listed_by n (next_of s w) (collected (min wanted room) s w).state).state ≡ after_of (collected (min wanted room) s w).state)
-    by zero e = let z : ◌≡◌ {A = ℕ} 0 1 = cc in absurd (omega arith)
+    by zero e = absurd (uncounted (next_of s w).answer e)
     by (suc n) e = (omega arith, refl)
 
-    go : (x y : Bool) → (set_by (min wanted room) s w x y).answer ≡ Count k
+    go : (x y : Bool) → (set_by (min wanted room) s w x y).answer ≡ Ok (Count k)
         → (0 < length (collected (min wanted room) s w).records) × ((set_by (min wanted room) s w x y).state ≡ after_of (collected (min wanted room) s w).state)
     go false y e = let z : ◌≡◌ {A = ℕ} 0 1 = cc in absurd (omega arith)
     go true true e = let z : ◌≡◌ {A = ℕ} 0 1 = cc in absurd (omega arith)
@@ -395,7 +392,7 @@ after_position B s w t g i =
     end_is b st f t n x a l r e w y = omega arith
 
 -- THE POSITION AFTER A SET CALL that lists records is where the reading goes on; after one with no final LF it is the input's length.
-pub set_position : (B : List ℕ) (b : Bench) (room wanted k : ℕ) → Stands B b → (set_of b.reader b.window room wanted).answer ≡ Count k
+pub set_position : (B : List ℕ) (b : Bench) (room wanted k : ℕ) → Stands B b → (set_of b.reader b.window room wanted).answer ≡ Ok (Count k)
     → Follow B (set_of b.reader b.window room wanted).state
 set_position B b room wanted k g e =
     let q = set_state b.reader b.window room wanted k e in

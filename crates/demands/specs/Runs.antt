@@ -1,25 +1,23 @@
 -- What a user's run is: a sequence of the public calls on one reader and one window, and the answers that it hears.
 -- Assumes nothing.
-use Rattle.std.specs.Prelude.{ℕ, suc, ◌+◌, ◌≤◌, ◌<◌, ◌≡◌, Bool, true, false, List, [], ◌∷◌, ◌++◌, length, take, drop}
-use Rattle.std.proofs.Math.Option.{Option, none, some}
+use Rattle.std.specs.Prelude.{ℕ, suc, ◌+◌, ◌≤◌, ◌<◌, ◌≡◌, Bool, true, false, List, [], ◌∷◌, ◌++◌, length, take, drop, Option, Some, None, Result, Ok, Err}
+use Rattle.std.proofs.Math.Option as math
+use Rattle.std.proofs.Math.Option.{none, some}
 use Rattle.reading.specs.Answer.{Id, absent, range, found, window_limit, invalid_start, invalid_separator, unequal_lengths, unexpected_end, ended, Told, told}
 use Rattle.reading.specs.Answer as read
 use Rattle.reading.specs.Reading.{first as first_answers, reading}
 use Rattle.reading.specs.Lists.{kept, SameOrOn}
 use Rattle.reading.specs.Shift.{shift_five, shift_id}
-use Rattle.record.specs.declared.Range.{Range}
-use Rattle.record.specs.declared.Range.TheVariants.{Absent, Bytes}
+use Rattle.record.specs.declared.Span.{Span}
 use Rattle.record.specs.Check.{five_of}
 use Rattle.reader.specs.declared.Reader.{Reader}
-use Rattle.reader.specs.declared.Opened.TheVariants.{Fresh}
-use Rattle.reader.specs.declared.Taken.{Taken}
-use Rattle.reader.specs.declared.Taken.TheVariants as taken
-use Rattle.reader.specs.declared.Ending.TheVariants as ending
+use Rattle.reader.specs.declared.Refusal.{Refusal}
+use Rattle.reader.specs.declared.Refusal.TheVariants.{NotWaiting, EndNoted}
 use Rattle.reader.specs.declared.Position.{Position}
 use Rattle.reader.specs.declared.Place.{Place}
 use Rattle.reader.specs.declared.Place.TheVariants as place
 use Rattle.reader.specs.declared.Answer.{Answer}
-use Rattle.reader.specs.declared.Answer.TheVariants.{Record, More, WindowLimit, InvalidStart, InvalidSeparator, UnequalLengths, UnexpectedEnd, End, Refused}
+use Rattle.reader.specs.declared.Answer.TheVariants.{Record, More, WindowLimit, InvalidStart, InvalidSeparator, UnequalLengths, UnexpectedEnd, End}
 use Rattle.reader.specs.State.{open_of, position_of}
 use Rattle.reader.specs.Feed.{taken_of, feed_of, fed_window, finish_of}
 use Rattle.reader.specs.Next.{next_of}
@@ -27,36 +25,36 @@ use Rattle.reader.specs.Seek.{base, seek_of}
 
 -- ---- what is heard
 
-abbrev pub id_of : Range → Id
-id_of Absent = absent
-id_of (Bytes a b) = range a b
+abbrev pub id_of : Option Span → Id
+id_of None = absent
+id_of (Some i) = range i.from i.to
 
 -- what next answered, in absolute offsets: k is the absolute offset of the window's first byte. A request and a refusal are no answers
-abbrev pub heard_of : ℕ → Answer → Option read.Answer
-heard_of k (Record r b) = some (found (shift_five k (five_of r)))
-heard_of k More = none
-heard_of k (WindowLimit L b) = some (window_limit L.0 b.0)
-heard_of k (InvalidStart x L) = some (invalid_start x L.0)
-heard_of k (InvalidSeparator x L i) = some (invalid_separator x L.0 (shift_id k (id_of i)))
-heard_of k (UnequalLengths n m L i) = some (unequal_lengths n m L.0 (shift_id k (id_of i)))
-heard_of k (UnexpectedEnd L i) = some (unexpected_end L.0 (shift_id k (id_of i)))
-heard_of k End = some ended
-heard_of k (Refused n) = none
+abbrev pub heard_of : ℕ → Result Answer Refusal → math.Option read.Answer
+heard_of k (Ok (Record r b)) = some (found (shift_five k (five_of r)))
+heard_of k (Ok More) = none
+heard_of k (Ok (WindowLimit L b)) = some (window_limit L.0 b.0)
+heard_of k (Ok (InvalidStart x L)) = some (invalid_start x L.0)
+heard_of k (Ok (InvalidSeparator x L i)) = some (invalid_separator x L.0 (shift_id k (id_of i)))
+heard_of k (Ok (UnequalLengths n m L i)) = some (unequal_lengths n m L.0 (shift_id k (id_of i)))
+heard_of k (Ok (UnexpectedEnd L i)) = some (unexpected_end L.0 (shift_id k (id_of i)))
+heard_of k (Ok End) = some ended
+heard_of k (Err r) = none
 
 -- an answer, with the position that the reader then tells
 abbrev pub placed : Reader → read.Answer → Told
 placed s a = told (position_of s).line.0 (position_of s).byte.0 a
 
-abbrev pub add_to : List Told → Reader → Option read.Answer → List Told
+abbrev pub add_to : List Told → Reader → math.Option read.Answer → List Told
 add_to ts s none = ts
 add_to ts s (some a) = ts ++ (placed s a ∷ [])
 
 -- ---- calls
 
 -- how many bytes a feed says that it took
-abbrev pub took_of : Taken → ℕ
-took_of (taken.Took n) = n
-took_of (taken.Refused k) = 0
+abbrev pub took_of : Result ℕ Refusal → ℕ
+took_of (Ok n) = n
+took_of (Err r) = 0
 
 -- one bench: its reader and window, how many bytes of the input were taken, and the answers heard so far
 pub record Bench : Type 0 where
@@ -99,7 +97,7 @@ pub data Calls (B : List ℕ) (a : Bench) : Bench → Type 0 where
 
 -- a fresh bench: a reader that open gave for W, a window of W bytes, whatever they are, nothing taken and nothing heard
 pub record Opened (W : ℕ) (b : Bench) : Type 0 where
-  pub fresh : open_of W ≡ Fresh b.reader
+  pub fresh : open_of W ≡ Ok b.reader
   pub wide : length b.window ≡ W
   pub none : b.taken ≡ 0
   pub silent : b.heard ≡ []
@@ -130,38 +128,37 @@ pub record Agree (B : List ℕ) (W U : ℕ) (a b : Bench) : Type 0 where
 
 -- what feed answers in a run, offered the input's next bytes: 4 exactly if the end is noted, 3 exactly if it is not and the state is not waiting
 pub record FeedIs (s : Reader) (w n : ℕ) : Type 0 where
-  pub ended : s.ended ≡ true → (feed_of s w n).answer ≡ taken.Refused 4
-  pub unasked : s.ended ≡ false → s.waiting ≡ false → (feed_of s w n).answer ≡ taken.Refused 3
-  pub taken : s.ended ≡ false → s.waiting ≡ true → (feed_of s w n).answer ≡ taken.Took (taken_of s n)
+  pub ended : s.ended ≡ true → (feed_of s w n).answer ≡ Err EndNoted
+  pub unasked : s.ended ≡ false → s.waiting ≡ false → (feed_of s w n).answer ≡ Err NotWaiting
+  pub taken : s.ended ≡ false → s.waiting ≡ true → (feed_of s w n).answer ≡ Ok (taken_of s n)
 
 -- what finish answers in a run
 pub record FinishIs (s : Reader) (w : ℕ) : Type 0 where
-  pub ended : s.ended ≡ true → (finish_of s w).answer ≡ ending.Refused 4
-  pub unasked : s.ended ≡ false → s.waiting ≡ false → (finish_of s w).answer ≡ ending.Refused 3
-  pub noted : s.ended ≡ false → s.waiting ≡ true → (finish_of s w).answer ≡ ending.Noted
+  pub ended : s.ended ≡ true → (finish_of s w).answer ≡ Err EndNoted
+  pub unasked : s.ended ≡ false → s.waiting ≡ false → (finish_of s w).answer ≡ Err NotWaiting
+  pub noted : s.ended ≡ false → s.waiting ≡ true → (finish_of s w).answer ≡ Ok tt
 
 -- ---- requests
 
 -- calls that answer each request straight away: by a nonempty chunk of the input's next bytes, or, when all is taken, by announcing the end; k requests so far
 pub data Attended (B : List ℕ) (a : Bench) : Bench → ℕ → Type 0 where
   begins : Attended B a a 0
-  hears : {b : Bench} {k : ℕ} → Attended B a b k → ((next_of b.reader b.window).answer ≡ More → ⊥) → Attended B a (asked b) k
-  serves : {b : Bench} {k : ℕ} → Attended B a b k → (next_of b.reader b.window).answer ≡ More → (chunk : List ℕ) → 0 < length chunk
+  hears : {b : Bench} {k : ℕ} → Attended B a b k → ((next_of b.reader b.window).answer ≡ Ok More → ⊥) → Attended B a (asked b) k
+  serves : {b : Bench} {k : ℕ} → Attended B a b k → (next_of b.reader b.window).answer ≡ Ok More → (chunk : List ℕ) → 0 < length chunk
       → chunk ≡ take (length chunk) (drop b.taken B) → Attended B a (fed (asked b) chunk) (suc k)
-  closes : {b : Bench} {k : ℕ} → Attended B a b k → (next_of b.reader b.window).answer ≡ More → length B ≤ b.taken → Attended B a (finished (asked b)) (suc k)
+  closes : {b : Bench} {k : ℕ} → Attended B a b k → (next_of b.reader b.window).answer ≡ Ok More → length B ≤ b.taken → Attended B a (finished (asked b)) (suc k)
 
 -- ---- seeks
 
 -- up to where the input is taken after a seek: inside, as before; outside, the byte to feed from
-abbrev pub reached_by : Place → ℕ → ℕ
-reached_by place.Inside t = t
-reached_by (place.FeedFrom q) t = q.0
-reached_by (place.Refused k) t = t
+abbrev pub reached_by : Result Place Refusal → ℕ → ℕ
+reached_by (Ok place.Inside) t = t
+reached_by (Ok (place.FeedFrom q)) t = q.0
+reached_by (Err r) t = t
 
-abbrev pub is_refused : Place → Bool
-is_refused place.Inside = false
-is_refused (place.FeedFrom q) = false
-is_refused (place.Refused k) = true
+abbrev pub is_refused : Result Place Refusal → Bool
+is_refused (Ok p) = false
+is_refused (Err r) = true
 
 -- a seek: what is heard is counted anew
 abbrev pub sought : Bench → Position → Bench

@@ -1,6 +1,6 @@
 -- Runs that mix next and set calls.
 -- Assumes nothing.
-use Rattle.std.specs.Prelude.{ℕ, ◌+◌, ◌-◌, ◌*◌, ◌≡◌, false, List, [], ◌∷◌, ◌++◌, map, length}
+use Rattle.std.specs.Prelude.{ℕ, ◌+◌, ◌-◌, ◌*◌, ◌≡◌, false, List, [], ◌∷◌, ◌++◌, map, length, Result, Ok, Err}
 use Rattle.reading.specs.Answer.{found, Told, told}
 use Rattle.reading.specs.Answer as read
 use Rattle.reading.specs.Shift.{shift_five}
@@ -8,9 +8,10 @@ use Rattle.record.specs.declared.Record.{Record}
 use Rattle.record.specs.Check.{five_of}
 use Rattle.reader.specs.declared.Reader.{Reader}
 use Rattle.reader.specs.declared.Position.{Position}
+use Rattle.reader.specs.declared.Refusal.{Refusal}
 use Rattle.reader.specs.Seek.{base, seek_of}
 use Rattle.sets.specs.declared.Reply.{Reply}
-use Rattle.sets.specs.declared.Reply.TheVariants.{Count, Other, Refused}
+use Rattle.sets.specs.declared.Reply.TheVariants.{Count, Other}
 use Rattle.sets.specs.Sets.{set_of, records_of}
 use Rattle.demands.specs.Runs.{heard_of, add_to, Bench, Call, is_refused, sought}
 
@@ -20,10 +21,10 @@ listed_as k L [] = []
 listed_as k L (r ∷ rs) = told L (k + r.start) (found (shift_five k (five_of r))) ∷ listed_as k (L + 4) rs
 
 -- what a set call adds to the answers heard: the records listed, four lines each before the position's; or, with none, next's answer
-abbrev pub heard_by : List Told → Reader → List Record → Reply → List Told
-heard_by ts s rs (Count k) = ts ++ listed_as (base s) (s.line.0 - 4 * k) rs
-heard_by ts s rs (Other a) = add_to ts s (heard_of (base s) a)
-heard_by ts s rs (Refused k) = ts
+abbrev pub heard_by : List Told → Reader → List Record → Result Reply Refusal → List Told
+heard_by ts s rs (Ok (Count k)) = ts ++ listed_as (base s) (s.line.0 - 4 * k) rs
+heard_by ts s rs (Ok (Other a)) = add_to ts s (heard_of (base s) (Ok a))
+heard_by ts s rs (Err r) = ts
 
 -- a set call, with a table that has room for so many entries
 abbrev pub listing : Bench → ℕ → ℕ → Bench

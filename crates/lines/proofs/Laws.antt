@@ -9,23 +9,14 @@ use native.Mathlib.Nat.{zero-sub}
 use native.Mathlib.Omega.{arith}
 use lib.Dec.{eqb}
 use lib.ListN.{length, get_or, take, drop, drop_of_length-le, length-take, length-drop}
-use lib.Seq.{drop-cons, drop-drop, drop-nil, take-nil, slice}
+use lib.Seq.{take_all, drop-drop, drop-nil, take-nil, slice}
 use borrow.Author.Tests.{eq-eqb, ne_eqb}
 use Rattle.reading.specs.Bytes.{LF, CR, byte_at, keep, line_ends, trim_cr}
-use Rattle.lines.specs.declared.Found.TheVariants.{At, Nothing}
+use Rattle.std.specs.Prelude.{Option, Some, None, ◌==◌, nat_lt, not, option_map, position}
+use Rattle.std.specs.List.{position_or_len}
 use Rattle.lines.specs.Lines.{first_of, line_from}
 
 -- ---- line ends
-
--- an LF at i is the first line end from i on
-pub ends_here : (s : List ℕ) (i : ℕ) → i < length s → byte_at s i ≡ LF → line_ends i (drop i s) ≡ i ∷ line_ends (i + 1) (drop (i + 1) s)
-unfolding line_ends
-ends_here s i h e = rw (drop-cons s i 0) (simp (eq-eqb (get_or s i 0) 10 e, add-one))
-
--- any other byte at i is passed
-pub ends_on : (s : List ℕ) (i : ℕ) → i < length s → (byte_at s i ≡ LF → ⊥) → line_ends i (drop i s) ≡ line_ends (i + 1) (drop (i + 1) s)
-unfolding line_ends
-ends_on s i h e = rw (drop-cons s i 0) (simp (ne_eqb (get_or s i 0) 10 e, add-one))
 
 -- past the end there are no line ends
 pub ends_past : (s : List ℕ) (i : ℕ) → length s ≤ i → line_ends i (drop i s) ≡ []
@@ -34,18 +25,29 @@ ends_past s i h = rw drop_of_length-le
 
 -- ---- the line search
 
--- an LF at i is what a search from i finds
-pub line_here : (s : List ℕ) (i : ℕ) → i < length s → byte_at s i ≡ LF → At i ≡ line_from s i
-unfolding line_from
-line_here s i h e = sym (ap first_of (ends_here s i h e))
+-- the test for LF
+abbrev pub is_line_end : ℕ → Bool
+is_line_end b = b == LF
 
--- past any other byte a search from i goes on at i + 1
-pub line_on : (s : List ℕ) (i : ℕ) → i < length s → (byte_at s i ≡ LF → ⊥) → line_from s i ≡ line_from s (i + 1)
+-- the first line end of l, whose first byte has offset o, is so far on
+first_end : (o : ℕ) (l : List ℕ) → first_of (line_ends o l) ≡ option_map (λ i. o + i) (position is_line_end l)
+unfolding line_ends
+first_end o [] = refl
+first_end o (b ∷ l) = by (eqb b LF) (first_end (suc o) l)
+  where
+    by : (t : Bool) → first_of (line_ends (suc o) l) ≡ option_map (λ i. suc o + i) (position is_line_end l)
+        → first_of (keep t o (line_ends (suc o) l)) ≡ option_map (λ i. o + i) (cond (nat_lt (cond (not t) (1 + position_or_len is_line_end l) 0) (suc (length l))) (Some (cond (not t) (1 + position_or_len is_line_end l) 0)) None)
+    by true rest = grind arith
+    by false rest = grind (arith, rest)
+
+-- a search finds what is found in the part from its start on, counted from there: r is the first place of an LF in that part
+pub line_in : (s : List ℕ) (from : ℕ) (part : List ℕ) → part ≡ take (length s - from) (drop from s) → (r : Option ℕ) → r ≡ position is_line_end part
+    → option_map (λ i. from + i) r ≡ line_from s from
 unfolding line_from
-line_on s i h e = ap first_of (ends_on s i h e)
+line_in s from part e r q = rw (q, e, take_all (length s - from) (drop from s) (simp length-drop (omega arith))) (sym (first_end from (drop from s)))
 
 -- a search that starts past the end finds nothing
-pub line_past : (s : List ℕ) (i : ℕ) → length s ≤ i → line_from s i ≡ Nothing
+pub line_past : (s : List ℕ) (i : ℕ) → length s ≤ i → line_from s i ≡ None
 unfolding line_from
 line_past s i h = ap first_of (ends_past s i h)
 
@@ -62,17 +64,17 @@ record Ahead (o : ℕ) (l : List ℕ) (i k : ℕ) : Type 0 where
   ends : line_ends o l ≡ i ∷ line_ends (suc i) (drop (suc k) l)
 
 -- the first of the line ends is so far ahead
-ahead : (o : ℕ) (l : List ℕ) (i : ℕ) → first_of (line_ends o l) ≡ At i → (k : ℕ) × Ahead o l i k
+ahead : (o : ℕ) (l : List ℕ) (i : ℕ) → first_of (line_ends o l) ≡ Some i → (k : ℕ) × Ahead o l i k
 unfolding line_ends
 ahead o [] i e = let z : ◌≡◌ {A = ℕ} 0 1 = cc in absurd (omega arith)
 ahead o (b ∷ l) i e = by (eqb b LF) refl e (λ g. ahead (suc o) l i g) where
-  by : (t : Bool) → eqb b LF ≡ t → first_of (keep t o (line_ends (suc o) l)) ≡ At i → (first_of (line_ends (suc o) l) ≡ At i → (k : ℕ) × Ahead (suc o) l i k)
+  by : (t : Bool) → eqb b LF ≡ t → first_of (keep t o (line_ends (suc o) l)) ≡ Some i → (first_of (line_ends (suc o) l) ≡ Some i → (k : ℕ) × Ahead (suc o) l i k)
       → (k : ℕ) × Ahead o (b ∷ l) i k
   by true q e f = let z : o ≡ i = cc in (0, record { far = omega arith; inside = omega arith; ends = rw (q, z) })
   by false q e f = let a = f e in (suc a.0, record { far = omega arith; inside = omega arith; ends = rw q a.1.ends })
 
 -- what a search finds is the first line end, and the others follow it
-pub line_found : (s : List ℕ) (from i : ℕ) → line_from s from ≡ At i → Next s from i
+pub line_found : (s : List ℕ) (from i : ℕ) → line_from s from ≡ Some i → Next s from i
 unfolding line_from
 line_found s from i e =
     let a = ahead from (drop from s) i e in
@@ -84,10 +86,10 @@ line_found s from i e =
     }
 
 -- a search that finds nothing has no line end ahead
-pub line_none : (s : List ℕ) (from : ℕ) → line_from s from ≡ Nothing → line_ends from (drop from s) ≡ []
+pub line_none : (s : List ℕ) (from : ℕ) → line_from s from ≡ None → line_ends from (drop from s) ≡ []
 unfolding line_from
 line_none s from e = none (line_ends from (drop from s)) e where
-  none : (es : List ℕ) → first_of es ≡ Nothing → es ≡ []
+  none : (es : List ℕ) → first_of es ≡ None → es ≡ []
   none [] e = refl
   none (x ∷ es) e = let z : ◌≡◌ {A = ℕ} 0 1 = cc in absurd (omega arith)
 

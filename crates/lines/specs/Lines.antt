@@ -1,17 +1,15 @@
 -- What the leaves answer and leave behind.
 -- Assumes nothing.
-use Rattle.std.specs.Prelude.{ℕ, List, [], ◌∷◌, ◌++◌, length, take, drop}
+use Rattle.std.specs.Prelude.{ℕ, Option, Some, None, List, [], ◌∷◌, ◌++◌, length, take, drop}
 use Rattle.std.proofs.Math.Seq.{slice}
 use Rattle.reading.specs.Bytes.{line_ends}
-use Rattle.lines.specs.declared.Found.{Found}
-use Rattle.lines.specs.declared.Found.TheVariants.{At, Nothing}
 
-abbrev pub first_of : List ℕ → Found
-first_of [] = Nothing
-first_of (e ∷ es) = At e
+abbrev pub first_of : List ℕ → Option ℕ
+first_of [] = None
+first_of (e ∷ es) = Some e
 
 -- the first LF of s at or after `from`
-unfoldable pub line_from : List ℕ → ℕ → Found
+unfoldable pub line_from : List ℕ → ℕ → Option ℕ
 line_from s from = first_of (line_ends from (drop from s))
 
 -- as many bytes of `src` as `dst` has room for, and behind them what `dst` held there

@@ -2,30 +2,24 @@
 // Each is total: it takes any bytes and any numbers.
 #![tactic(auto)]
 
-ghost use Rattle.std.specs.Prelude.{◌≡◌, min};
+ghost use Rattle.std.specs.Prelude.{◌≡◌, ◌==◌, position};
 ghost use Rattle.reading.specs.Bytes.{trim_cr};
 ghost use Rattle.lines.specs.Lines.{line_from, copied, moved_front};
 
-// Where a line end was found.
-#[derive(Clone, Copy)]
-pub enum Found {
-    At(usize),
-    Nothing,
+// The first place of a byte, if it is there.
+pub fn find_byte(s: &[u8], byte: u8) -> Option<usize>
+    ensures { result ≡ position (λ b. b == byte) s.now }
+{
+    s.iter().position(|&b| b == byte)
 }
 
 // The first LF of `s` at or after `from`; a start past the end finds nothing.
-#[tactic(auto, using(crate::proofs::Laws::line_here, crate::proofs::Laws::line_on, crate::proofs::Laws::line_past))]
-pub fn find_line(s: &[u8], from: usize) -> Found
+#[tactic(auto, using(crate::proofs::Laws::line_past))]
+pub fn find_line(s: &[u8], from: usize) -> Option<usize>
     ensures { result ≡ line_from s.now from }
 {
-    let mut i = from;
-    while i < s.len() {
-        if s[i] == 10 {
-            return Found::At(i);
-        }
-        i += 1;
-    }
-    Found::Nothing
+    let i = find_byte(s.get(from..)?, b'\n')?;
+    Some(from + i)
 }
 
 // `s` without one final carriage return, if it has one: the same place.
@@ -39,38 +33,21 @@ pub fn trim_cr(s: &[u8]) -> &[u8]
         return s;
     }
     let m = n - 1;
-    if s[m] == 13 { &s[..m] } else { s }
-}
-
-// The smaller of two numbers.
-pub fn least(a: usize, b: usize) -> usize
-    ensures { result ≡ min a b }
-{
-    if a <= b { a } else { b }
+    if s[m] == b'\r' { &s[..m] } else { s }
 }
 
 // Copies `src` over the front of `dst`, as much of it as `dst` has room for; the rest of `dst` stays.
 pub fn copy_into(dst: &mut [u8], src: &[u8])
     ensures { dst.new ≡ copied dst.old src.now }
 {
-    let n = least(dst.len(), src.len());
-    let mut i = 0;
-    while i < n {
-        dst[i] = src[i];
-        i += 1;
-    }
+    let n = dst.len().min(src.len());
+    dst[..n].copy_from_slice(&src[..n]);
 }
 
 // Moves the bytes from `start` up to `fill` to the front of `window`; behind them stays what was there.
 pub fn move_front(window: &mut [u8], start: usize, fill: usize)
     ensures { window.new ≡ moved_front window.old start fill }
 {
-    let end = least(fill, window.len());
-    let mut i = 0;
-    let mut j = start;
-    while j < end {
-        window[i] = window[j];
-        i += 1;
-        j += 1;
-    }
+    let end = fill.min(window.len());
+    window.copy_within(start.min(end)..end, 0);
 }

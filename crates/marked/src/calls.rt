@@ -1,103 +1,83 @@
 // One call of a reader each, told in a line; a refused one with whether state and window are as before.
-use crate::{compare, telling};
-use reader::{Answer, Byte, Ending, Line, Opened, Place, Position, Reader, Taken};
-
-fn verdict(rt: &impl Print, number: u8, same: bool) {
-    telling::value(rt, b": refused ", number as u64);
-    if same {
-        telling::text(rt, b", unchanged\n");
-    } else {
-        telling::text(rt, b", CHANGED\n");
-    }
-}
+use crate::compare::Held;
+use crate::telling;
+use reader::{Place, Position, Reader, Refusal};
 
 pub fn open(rt: &impl Print, size: usize) {
-    telling::value(rt, b"  open ", size as u64);
-    let opened = Reader::open(size);
-    match opened {
-        Opened::Fresh(state) => fresh(rt, state),
-        Opened::Refused(n) => telling::value(rt, b": refused ", n as u64),
+    telling::text(rt, format_args!("  open {size}: "));
+    match Reader::open(size) {
+        Ok(state) => { telling::text(rt, format_args!("a window of {}\n", state.window)) }
+        Err(refusal) => telling::text(rt, format_args!("refused {}\n", u8::from(refusal))),
     }
-    telling::text(rt, b"\n");
 }
 
-fn fresh(rt: &impl Print, state: Reader) {
-    telling::value(rt, b": a window of ", state.window as u64);
+// The calls on one window.
+#[derive(Drop)]
+pub struct Calls<'a, P> {
+    rt: &'a P,
+    window: &'a mut [u8],
 }
 
-pub fn feed(rt: &impl Print, state: Reader, window: &mut [u8], chunk: &[u8]) -> Reader {
-    let before = compare::kept(window);
-    let f = state.feed(window, chunk);
-    let after = f.state;
-    let answer = f.answer;
-    let same = compare::unchanged(state, after, &before, window);
-    telling::value(rt, b"  feed ", chunk.len() as u64);
-    match answer {
-        Taken::Took(t) => took(rt, t),
-        Taken::Refused(n) => verdict(rt, n, same),
+impl<'a, P: Print> Calls<'a, P> {
+    pub fn on(rt: &'a P, window: &'a mut [u8]) -> Calls<'a, P> {
+        Calls { rt, window }
     }
-    after
-}
 
-fn took(rt: &impl Print, t: usize) {
-    telling::value(rt, b": took ", t as u64);
-    telling::text(rt, b"\n");
-}
-
-pub fn finish(rt: &impl Print, state: Reader, window: &[u8]) -> Reader {
-    let before = compare::kept(window);
-    let f = state.finish(window);
-    let after = f.state;
-    let answer = f.answer;
-    let same = compare::unchanged(state, after, &before, window);
-    telling::text(rt, b"  finish");
-    match answer {
-        Ending::Noted => telling::text(rt, b": noted\n"),
-        Ending::Refused(n) => verdict(rt, n, same),
+    pub fn feed(&mut self, state: Reader, chunk: &[u8]) -> Reader {
+        let before = Held::of(state, self.window);
+        let fed = state.feed(self.window, chunk);
+        telling::text(self.rt, format_args!("  feed {}", chunk.len()));
+        match fed.answer {
+            Ok(t) => telling::text(self.rt, format_args!(": took {t}\n")),
+            Err(refusal) => self.verdict(refusal, before, fed.state),
+        }
+        fed.state
     }
-    after
-}
 
-pub fn next(rt: &impl Print, state: Reader, window: &[u8]) -> Reader {
-    let before = compare::kept(window);
-    let n = state.next(window);
-    let after = n.state;
-    let answer = n.answer;
-    let same = compare::unchanged(state, after, &before, window);
-    telling::text(rt, b"  next");
-    if let Answer::Refused(number) = answer {
-        verdict(rt, number, same);
-    } else {
-        telling::text(rt, b": ");
-        telling::tell(rt, answer, telling::front_of(after), window);
-        telling::position(rt, after);
+    pub fn finish(&self, state: Reader) -> Reader {
+        let before = Held::of(state, self.window);
+        let finished = state.finish(self.window);
+        telling::text(self.rt, "  finish");
+        match finished.answer {
+            Ok(()) => telling::text(self.rt, ": noted\n"),
+            Err(refusal) => self.verdict(refusal, before, finished.state),
+        }
+        finished.state
     }
-    after
-}
 
-pub fn seek(rt: &impl Print, state: Reader, window: &[u8], line: u64, byte: u64) -> Reader {
-    let before = compare::kept(window);
-    let m = state.seek(
-        window,
-        Position {
-            line: Line(line),
-            byte: Byte(byte),
-        },
-    );
-    let after = m.state;
-    let answer = m.answer;
-    let same = compare::unchanged(state, after, &before, window);
-    telling::value(rt, b"  seek ", line);
-    telling::value(rt, b" ", byte);
-    match answer {
-        Place::Inside => telling::text(rt, b": inside\n"),
-        Place::FeedFrom(b) => feed_from(rt, b),
-        Place::Refused(n) => verdict(rt, n, same),
+    pub fn next(&self, state: Reader) -> Reader {
+        let before = Held::of(state, self.window);
+        let next = state.next(self.window);
+        telling::text(self.rt, "  next");
+        match next.answer {
+            Ok(_) => {
+                telling::text(self.rt, ": ");
+                telling::tell(self.rt, next.answer, next.state, self.window);
+            }
+            Err(refusal) => self.verdict(refusal, before, next.state),
+        }
+        next.state
     }
-    after
-}
 
-fn feed_from(rt: &impl Print, byte: Byte) {
-    telling::value(rt, b": feed from ", byte.0);
-    telling::text(rt, b"\n");
+    pub fn seek(&self, state: Reader, place: Position) -> Reader {
+        let before = Held::of(state, self.window);
+        let moved = state.seek(self.window, place);
+        telling::text(
+            self.rt,
+            format_args!("  seek {} {}", place.line.0, place.byte.0),
+        );
+        match moved.answer {
+            Ok(Place::Inside) => telling::text(self.rt, ": inside\n"),
+            Ok(Place::FeedFrom(b)) => telling::text(self.rt, format_args!(": feed from {}\n", b.0)),
+            Err(refusal) => self.verdict(refusal, before, moved.state),
+        }
+        moved.state
+    }
+
+    fn verdict(&self, refusal: Refusal, before: Held, state: Reader) {
+        let number = u8::from(refusal);
+        let same = before == Held::of(state, self.window);
+        let after = if same { "unchanged" } else { "CHANGED" };
+        telling::text(self.rt, format_args!(": refused {number}, {after}\n"));
+    }
 }

@@ -1,10 +1,11 @@
 // Refusals 1 to 5 of document 01 at their edges, on a window of 32 bytes.
+use crate::calls::Calls;
 use crate::{calls, telling};
-use reader::{Byte, Line, Opened, Reader};
+use reader::{Byte, Line, Position, Reader};
 
-pub fn run(rt: &impl Print) {
+pub fn run<P: Print>(rt: &P) {
     sizes(rt);
-    let Opened::Fresh(reader) = Reader::open(32) else {
+    let Ok(reader) = Reader::open(32) else {
         return;
     };
     another_length(rt, reader);
@@ -19,130 +20,140 @@ pub fn run(rt: &impl Print) {
 }
 
 fn sizes(rt: &impl Print) {
-    telling::text(rt, b"refusal 1: window sizes\n");
-    calls::open(rt, 2);
-    calls::open(rt, 3);
-    calls::open(rt, 16777216);
-    calls::open(rt, 16777217);
+    telling::text(rt, "refusal 1: window sizes\n");
+    for size in [2, 3, 16777216, 16777217] {
+        calls::open(rt, size);
+    }
 }
 
-// Four bytes held, a line end noted, more wanted.
-fn begun(rt: &impl Print, reader: Reader, window: &mut [u8]) -> Reader {
-    let fed = calls::feed(rt, reader, window, b"@a\nA");
-    calls::next(rt, fed, window)
+fn place(line: u64, byte: u64) -> Position {
+    Position {
+        line: Line(line),
+        byte: Byte(byte),
+    }
 }
 
-// A complete record held.
-fn whole(rt: &impl Print, reader: Reader, window: &mut [u8]) -> Reader {
-    calls::feed(rt, reader, window, b"@a\nAC\n+\nII\n")
+impl<P: Print> Calls<'_, P> {
+    // Four bytes held, a line end noted, more wanted.
+    fn begun(&mut self, reader: Reader) -> Reader {
+        let fed = self.feed(reader, b"@a\nA");
+        self.next(fed)
+    }
+
+    // A complete record held.
+    fn whole(&mut self, reader: Reader) -> Reader {
+        self.feed(reader, b"@a\nAC\n+\nII\n")
+    }
+
+    // The calls that bring input.
+    fn bring_input(&mut self, reader: Reader) {
+        self.feed(reader, b"C");
+        self.finish(reader);
+    }
+
+    fn every_call(&mut self, reader: Reader) {
+        self.bring_input(reader);
+        self.next(reader);
+        self.seek(reader, place(1, 0));
+    }
 }
 
-// The calls that bring input.
-fn bring_input(rt: &impl Print, reader: Reader, window: &mut [u8]) {
-    calls::feed(rt, reader, window, b"C");
-    calls::finish(rt, reader, window);
+fn another_length<P: Print>(rt: &P, reader: Reader) {
+    let mut bytes = [b'.'; 32];
+    let mut shorter = [b'.'; 31];
+    let mut longer = [b'.'; 33];
+    telling::text(rt, "refusal 2: a window of 31 bytes, then of 33\n");
+    let held = Calls::on(rt, &mut bytes).begun(reader);
+    Calls::on(rt, &mut shorter).every_call(held);
+    Calls::on(rt, &mut longer).every_call(held);
 }
 
-fn every_call(rt: &impl Print, reader: Reader, window: &mut [u8]) {
-    bring_input(rt, reader, window);
-    calls::next(rt, reader, window);
-    calls::seek(rt, reader, window, 1, 0);
-}
-
-fn another_length(rt: &impl Print, reader: Reader) {
-    let mut bytes = [46u8; 32];
-    let mut shorter = [46u8; 31];
-    let mut longer = [46u8; 33];
-    telling::text(rt, b"refusal 2: a window of 31 bytes, then of 33\n");
-    let held = begun(rt, reader, &mut bytes);
-    every_call(rt, held, &mut shorter);
-    every_call(rt, held, &mut longer);
-}
-
-fn forged_window(rt: &impl Print, reader: Reader) {
-    let mut bytes = [46u8; 32];
+fn forged_window<P: Print>(rt: &P, reader: Reader) {
+    let mut bytes = [b'.'; 32];
+    let mut calls = Calls::on(rt, &mut bytes);
     telling::text(
         rt,
-        b"refusal 2: a fill point past the window, a searched mark at the last line end\n",
+        "refusal 2: a fill point past the window, a searched mark at the last line end\n",
     );
-    let held = begun(rt, reader, &mut bytes);
-    let mut filled = held;
-    filled.fill = 33;
-    every_call(rt, filled, &mut bytes);
-    let mut marked = held;
-    marked.mark = 2;
-    every_call(rt, marked, &mut bytes);
+    let held = calls.begun(reader);
+    calls.every_call(Reader { fill: 33, ..held });
+    calls.every_call(Reader { mark: 2, ..held });
 }
 
-fn forged_position(rt: &impl Print, reader: Reader) {
-    let mut bytes = [46u8; 32];
+fn forged_position<P: Print>(rt: &P, reader: Reader) {
+    let mut bytes = [b'.'; 32];
+    let mut calls = Calls::on(rt, &mut bytes);
     telling::text(
         rt,
-        b"refusal 2: held bytes past 2^48, a line above 2^49; the line 2^49 is not foreign\n",
+        "refusal 2: held bytes past 2^48, a line above 2^49; the line 2^49 is not foreign\n",
     );
-    let held = begun(rt, reader, &mut bytes);
-    let mut far = held;
+    let held = calls.begun(reader);
     let byte = Byte(281474976710653);
-    far.byte = byte;
-    every_call(rt, far, &mut bytes);
-    let mut late = held;
+    calls.every_call(Reader { byte, ..held });
     let above = Line(562949953421313);
-    late.line = above;
-    every_call(rt, late, &mut bytes);
+    calls.every_call(Reader {
+        line: above,
+        ..held
+    });
     let last = Line(562949953421312);
-    late.line = last;
-    calls::next(rt, late, &bytes);
+    calls.next(Reader { line: last, ..held });
 }
 
-fn not_waiting(rt: &impl Print, reader: Reader) {
-    let mut bytes = [46u8; 32];
-    telling::text(rt, b"refusal 3: a record was answered\n");
-    let held = whole(rt, reader, &mut bytes);
-    let answered = calls::next(rt, held, &bytes);
-    bring_input(rt, answered, &mut bytes);
+fn not_waiting<P: Print>(rt: &P, reader: Reader) {
+    let mut bytes = [b'.'; 32];
+    let mut calls = Calls::on(rt, &mut bytes);
+    telling::text(rt, "refusal 3: a record was answered\n");
+    let held = calls.whole(reader);
+    let answered = calls.next(held);
+    calls.bring_input(answered);
 }
 
-fn ended(rt: &impl Print, reader: Reader) {
-    let mut bytes = [46u8; 32];
-    telling::text(rt, b"refusal 4: the end is noted\n");
-    let held = begun(rt, reader, &mut bytes);
-    let noted = calls::finish(rt, held, &bytes);
-    bring_input(rt, noted, &mut bytes);
+fn ended<P: Print>(rt: &P, reader: Reader) {
+    let mut bytes = [b'.'; 32];
+    let mut calls = Calls::on(rt, &mut bytes);
+    telling::text(rt, "refusal 4: the end is noted\n");
+    let held = calls.begun(reader);
+    let noted = calls.finish(held);
+    calls.bring_input(noted);
 }
 
-fn ended_and_not_waiting(rt: &impl Print, reader: Reader) {
-    let mut bytes = [46u8; 32];
+fn ended_and_not_waiting<P: Print>(rt: &P, reader: Reader) {
+    let mut bytes = [b'.'; 32];
+    let mut calls = Calls::on(rt, &mut bytes);
     telling::text(
         rt,
-        b"refusal 4 before 3: the end is noted and a record was answered\n",
+        "refusal 4 before 3: the end is noted and a record was answered\n",
     );
-    let held = whole(rt, reader, &mut bytes);
-    let noted = calls::finish(rt, held, &bytes);
-    let answered = calls::next(rt, noted, &bytes);
-    bring_input(rt, answered, &mut bytes);
+    let held = calls.whole(reader);
+    let noted = calls.finish(held);
+    let answered = calls.next(noted);
+    calls.bring_input(answered);
 }
 
-fn at_limit(rt: &impl Print, reader: Reader) {
-    let mut bytes = [46u8; 32];
-    telling::text(rt, b"refusal 5: a byte past 2^48\n");
-    let last = calls::seek(rt, reader, &bytes, 1, 281474976710656);
-    calls::feed(rt, last, &mut bytes, b"C");
-    calls::feed(rt, last, &mut bytes, b"");
+fn at_limit<P: Print>(rt: &P, reader: Reader) {
+    let mut bytes = [b'.'; 32];
+    let mut calls = Calls::on(rt, &mut bytes);
+    telling::text(rt, "refusal 5: a byte past 2^48\n");
+    let last = calls.seek(reader, place(1, 281474976710656));
+    calls.feed(last, b"C");
+    calls.feed(last, b"");
 }
 
-fn near_limit(rt: &impl Print, reader: Reader) {
-    let mut bytes = [46u8; 32];
-    telling::text(rt, b"refusal 5: one of three bytes past 2^48\n");
-    let near = calls::seek(rt, reader, &bytes, 1, 281474976710654);
-    calls::feed(rt, near, &mut bytes, b"ACG");
-    calls::feed(rt, near, &mut bytes, b"AC");
+fn near_limit<P: Print>(rt: &P, reader: Reader) {
+    let mut bytes = [b'.'; 32];
+    let mut calls = Calls::on(rt, &mut bytes);
+    telling::text(rt, "refusal 5: one of three bytes past 2^48\n");
+    let near = calls.seek(reader, place(1, 281474976710654));
+    calls.feed(near, b"ACG");
+    calls.feed(near, b"AC");
 }
 
-fn far_places(rt: &impl Print, reader: Reader) {
-    let mut bytes = [46u8; 32];
-    telling::text(rt, b"refusal 5: a line or a byte above 2^48\n");
-    let last = calls::seek(rt, reader, &bytes, 281474976710656, 0);
-    let held = begun(rt, last, &mut bytes);
-    calls::seek(rt, held, &bytes, 281474976710657, 0);
-    calls::seek(rt, held, &bytes, 1, 281474976710657);
+fn far_places<P: Print>(rt: &P, reader: Reader) {
+    let mut bytes = [b'.'; 32];
+    let mut calls = Calls::on(rt, &mut bytes);
+    telling::text(rt, "refusal 5: a line or a byte above 2^48\n");
+    let last = calls.seek(reader, place(281474976710656, 0));
+    let held = calls.begun(last);
+    calls.seek(held, place(281474976710657, 0));
+    calls.seek(held, place(1, 281474976710657));
 }

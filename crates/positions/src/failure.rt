@@ -1,5 +1,4 @@
 // Reads and writes that failed, told on standard error.
-use record::less;
 use std::io;
 use std::io::Write;
 
@@ -11,7 +10,7 @@ pub fn tell(rt: &impl Eprint, what: &str, error: io::Error) {
     let mut bytes = [0u8; ROOM];
     let mut room = &mut bytes[..];
     let _ = write!(room, "{error}");
-    let n = less(ROOM, room.len());
+    let n = ROOM.saturating_sub(room.len());
     let why = words(&bytes[..n]);
     let _ = eprintln!(rt; "{what}: {why}");
 }

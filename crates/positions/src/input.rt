@@ -1,48 +1,42 @@
 // Standard input, in chunks.
-use crate::output;
-use reader::Taken;
 use std::io;
 use std::io::Read;
 
-// The chunk's bytes that are not taken yet: none at the end of the input.
-#[derive(Clone, Copy)]
-pub struct Left {
-    pub from: usize,
-    pub to: usize,
+// The chunk's bytes from `from` up to `to` are not taken yet.
+#[derive(Drop)]
+pub struct Input<'a, R> {
+    stdin: &'a mut R,
+    chunk: &'a mut [u8],
+    from: usize,
+    to: usize,
 }
 
-// How many bytes the reader took.
-#[derive(Clone, Copy)]
-pub struct Took {
-    pub count: usize,
-    pub refused: bool, // it refused them
-}
-
-// What is left of the chunk; where nothing is, what a read brings.
-pub fn fetch(stdin: &mut impl Read, from: usize, to: usize, chunk: &mut [u8]) -> io::Result<Left> {
-    if from < to {
-        return Ok(Left { from, to });
+impl<'a, R: Read> Input<'a, R> {
+    pub fn new(stdin: &'a mut R, chunk: &'a mut [u8]) -> Input<'a, R> {
+        Input {
+            stdin,
+            chunk,
+            from: 0,
+            to: 0,
+        }
     }
-    let to = stdin.read(chunk)?;
-    Ok(Left { from: 0, to })
-}
 
-// Refused are only bytes past 2^48: what is gathered is written, and standard error says so.
-pub fn taken(rt: &(impl Print + Eprint), answer: Taken, out: &[u8], gathered: usize) -> Took {
-    match answer {
-        Taken::Took(count) => Took {
-            count,
-            refused: false,
-        },
-        Taken::Refused(_) => too_long(rt, out, gathered),
+    // Reads where nothing is left of the chunk. Nothing is left then at the end of the input alone.
+    pub fn fill(&mut self) -> io::Result<()> {
+        if self.to <= self.from {
+            self.from = 0;
+            self.to = self.stdin.read(self.chunk)?;
+        }
+        Ok(())
     }
-}
 
-fn too_long(rt: &(impl Print + Eprint), out: &[u8], gathered: usize) -> Took {
-    output::flush(rt, out, gathered);
-    let _ = eprintln!(rt; "positions: standard input has more than 2^48 bytes");
-    Took {
-        count: 0,
-        refused: true,
+    // What is left of the chunk.
+    pub fn left(&self) -> &[u8] {
+        self.chunk.get(self.from..self.to).unwrap_or_default()
+    }
+
+    // The reader took so many bytes.
+    pub fn take(&mut self, count: usize) {
+        self.from = self.from.wrapping_add(count);
     }
 }

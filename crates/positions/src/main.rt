@@ -8,34 +8,35 @@ mod input;
 mod output;
 
 use std::env::{Env, FillError};
-use text::Parsed;
 
 // The largest window and the largest chunk.
 const LARGEST: u64 = 65536;
 
 fn main(rt: HostRuntime) {
-    let Parsed::Number(window) = argument(&rt, 1, 3, LARGEST) else {
+    let Some((window, chunk)) = sizes(&rt) else {
         refuse(&rt);
         return;
     };
-    let Parsed::Number(chunk) = argument(&rt, 2, 1, window) else {
-        refuse(&rt);
-        return;
-    };
-    if has_argument(&rt, 3) {
-        refuse(&rt);
-        return;
-    }
     driver::read_all(&rt, &mut rt.stdin(), window as usize, chunk as usize);
 }
 
+// The window's size and the most bytes of a chunk, where the arguments are good and no more than these.
+fn sizes(rt: &impl Env) -> Option<(u64, u64)> {
+    let window = argument(rt, 1, 3, LARGEST)?;
+    let chunk = argument(rt, 2, 1, window)?;
+    if has_argument(rt, 3) {
+        return None;
+    }
+    Some((window, chunk))
+}
+
 // The argument's number, or the default where it is left out.
-fn argument(rt: &impl Env, i: usize, low: u64, default: u64) -> Parsed {
+fn argument(rt: &impl Env, i: usize, low: u64, default: u64) -> Option<u64> {
     let mut word = [0u8; 4096];
     match rt.arg(i, &mut word) {
         Ok(n) => text::number_within(&word[..n], low, LARGEST),
-        Err(FillError::NotPresent) => Parsed::Number(default),
-        Err(FillError::TooLong) => Parsed::Refused,
+        Err(FillError::NotPresent) => Some(default),
+        Err(FillError::TooLong) => None,
     }
 }
 

@@ -1,58 +1,67 @@
 // Standard output, gathered and written in blocks.
 use crate::failure;
-use record::less;
-use writer::Written;
+use reader::{Answer, Outcome, Reader};
+use std::ops::ControlFlow;
+use writer::Refusal;
 
 // More than any line takes: the longest has a word, and six numbers of 20 digits at most.
 const LINE: usize = 256;
 
-// How many bytes of output wait to be written.
-#[derive(Clone, Copy)]
-pub struct Gathered {
-    pub count: usize,
-    pub failed: bool, // a write failed
+#[derive(Drop)]
+pub struct Output<'a, P> {
+    rt: &'a P,
+    bytes: &'a mut [u8],
+    gathered: usize, // how many bytes wait to be written
 }
 
-// The place behind a line.
-pub fn behind(at: usize, written: Written) -> usize {
-    match written {
-        Written::Wrote(n) => std::num::wrapping_add_usize(at, n),
-        Written::Refused(_) => at,
-    }
-}
-
-// Writes all that is gathered where little room is left.
-pub fn settle(rt: &(impl Print + Eprint), out: &[u8], gathered: usize) -> Gathered {
-    if LINE <= less(out.len(), gathered) {
-        return Gathered {
-            count: gathered,
-            failed: false,
-        };
-    }
-    Gathered {
-        count: 0,
-        failed: !flush(rt, out, gathered),
-    }
-}
-
-// Writes what is gathered. A write that fails is told on standard error, and answered by false.
-pub fn flush(rt: &(impl Print + Eprint), out: &[u8], gathered: usize) -> bool {
-    match rt.write_all(part(out, 0, gathered)) {
-        Ok(()) => true,
-        Err(error) => {
-            failure::tell(rt, "positions: standard output", error);
-            false
+impl<'a, P: Print + Eprint> Output<'a, P> {
+    pub fn new(rt: &'a P, bytes: &'a mut [u8]) -> Output<'a, P> {
+        Output {
+            rt,
+            bytes,
+            gathered: 0,
         }
     }
-}
 
-// The bytes of s from a place up to another; none where these are no such places.
-pub fn part(s: &[u8], from: usize, to: usize) -> &[u8] {
-    if s.len() < to {
-        return &s[..0];
+    pub fn put_answer(&mut self, next: Outcome<Answer>) {
+        let written = answers::put_answer(self.bytes, self.gathered, next);
+        self.go_behind(written);
     }
-    if to < from {
-        return &s[..0];
+
+    pub fn put_position(&mut self, state: Reader) {
+        let written = answers::put_position(self.bytes, self.gathered, state);
+        self.go_behind(written);
     }
-    &s[from..to]
+
+    fn go_behind(&mut self, line: Result<usize, Refusal>) {
+        if let Ok(n) = line {
+            self.gathered = self.gathered.wrapping_add(n);
+        }
+    }
+
+    // Writes all that is gathered where little room is left.
+    pub fn settle(&mut self) -> ControlFlow<()> {
+        if LINE <= self.bytes.len().saturating_sub(self.gathered) {
+            return ControlFlow::Continue(());
+        }
+        self.flush()
+    }
+
+    // What is gathered.
+    fn block(&self) -> &[u8] {
+        self.bytes.get(..self.gathered).unwrap_or_default()
+    }
+
+    // Writes what is gathered. A write that fails is told on standard error, and ends the run.
+    pub fn flush(&mut self) -> ControlFlow<()> {
+        let written = self.rt.write_all(self.block());
+        self.gathered = 0;
+        match written {
+            Ok(()) => ControlFlow::Continue(()),
+            Err(error) => {
+                failure::tell(self.rt, "positions: standard output", error);
+                ControlFlow::Break(())
+            }
+        }
+    }
 }

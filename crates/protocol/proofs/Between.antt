@@ -6,7 +6,8 @@ use mathlib.Core.List.{List}
 use lib.ListN.{length}
 use Rattle.reading.specs.Reading.{reading}
 use Rattle.reader.specs.declared.Reader.{Reader}
-use Rattle.reader.specs.declared.Next.{Next}
+use Rattle.reader.specs.declared.Outcome.{Outcome}
+use Rattle.reader.specs.declared.Answer.{Answer}
 use Rattle.reader.specs.State.{most_bytes, fresh_of}
 use Rattle.reader.specs.Next.{next_of}
 use Rattle.protocol.specs.declared.Kind.{Kind}
@@ -34,9 +35,9 @@ module _ (B w₀ : List ℕ) (chunk : ℕ) (s : Reader) (w : List ℕ) (at k : �
   pub between_few : k ≤ length B
   between_few = going_few B _ s w at k b.going
 
-  module _ (r : Next) (q : Kind) (e : r ≡ next_of s w) (f : q ≡ kind_of r.answer) where
+  module _ (r : Outcome Answer) (q : Kind) (e : r ≡ next_of s w) (f : q ≡ kind_of r.answer) where
     is : (x : Kind) → q ≡ x → kind_of (next_of s w).answer ≡ x
-    is x h = ap (λ (n : Next). kind_of n.answer) (sym e) ∙ sym f ∙ h
+    is x h = ap (λ (n : Outcome Answer). kind_of n.answer) (sym e) ∙ sym f ∙ h
 
     -- A RECORD is counted, and less is left to do.
     pub record_turn : q ≡ kind.Record → Between B w₀ chunk r.state w at (k + 1) × (left_of B r.state at (k + 1) < left_of B s at k)

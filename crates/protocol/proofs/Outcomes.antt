@@ -7,32 +7,33 @@ use lib.ListN.{length}
 use borrow.Author.Tests.{eq-eqb, ne_eqb, le-leb, lt-leb}
 use Rattle.reading.specs.Reading.{reading}
 use Rattle.reader.specs.declared.Reader.{Reader}
-use Rattle.reader.specs.declared.Opened.{Opened}
-use Rattle.reader.specs.declared.Opened.TheVariants.{Fresh, Refused}
+use Rattle.std.specs.Prelude.{Result, Ok, Err}
+use Rattle.reader.specs.declared.Refusal.{Refusal}
+use Rattle.reader.specs.declared.Refusal.TheVariants.{PastLimit, NothingToDo}
 use Rattle.reader.specs.State.{most_bytes, open_of}
 use Rattle.protocol.specs.Tallies.{tally_of}
-use Rattle.protocol.specs.Outcome.{counted, refused, outcome}
+use Rattle.protocol.specs.Outcome.{outcome}
 
-module _ (B : List ℕ) (W chunk : ℕ) (o : Opened) (e : o ≡ open_of W) where
+module _ (B : List ℕ) (W chunk : ℕ) (o : Result Reader Refusal) (e : o ≡ open_of W) where
   -- a window that open refuses gives its number
-  pub outcome_unopened : (k : ℕ) → o ≡ Refused k → refused k ≡ outcome B W chunk
+  pub outcome_unopened : (r : Refusal) → o ≡ Err r → Err r ≡ outcome B W chunk
   unfolding outcome
-  outcome_unopened k h = rw (← e, h)
+  outcome_unopened r h = rw (← e, h)
 
-  module _ (s : Reader) (h : o ≡ Fresh s) where
+  module _ (s : Reader) (h : o ≡ Ok s) where
     -- a chunk size of 0 gives 6
-    pub outcome_empty : chunk ≡ 0 → refused 6 ≡ outcome B W chunk
+    pub outcome_empty : chunk ≡ 0 → Err NothingToDo ≡ outcome B W chunk
     unfolding outcome
     outcome_empty z = rw (← e, h, eq-eqb chunk 0 z)
 
     module _ (some : chunk ≡ 0 → ⊥) where
       -- an input of more than 2^48 bytes gives 5
-      pub outcome_long : most_bytes < length B → refused 5 ≡ outcome B W chunk
+      pub outcome_long : most_bytes < length B → Err PastLimit ≡ outcome B W chunk
       unfolding outcome
       outcome_long l = rw (← e, h, ne_eqb chunk 0 some, lt-leb (length B) most_bytes l)
 
       -- otherwise the tally of the reading
-      pub outcome_counted : length B ≤ most_bytes → counted (tally_of (reading B W 0 1)) ≡ outcome B W chunk
+      pub outcome_counted : length B ≤ most_bytes → Ok (tally_of (reading B W 0 1)) ≡ outcome B W chunk
       unfolding outcome
       outcome_counted l = rw (← e, h, ne_eqb chunk 0 some, le-leb (length B) most_bytes l)
 

@@ -8,9 +8,11 @@ use mathlib.Core.List.{List}
 use lib.ListN.{length, take, drop, length-take, length-drop}
 use lib.Seq.{take_all, take-length}
 use borrow.Author.Tests.{le-leb, lt-leb}
+use Rattle.std.specs.Prelude.{Result, Ok, Err}
+use Rattle.std.specs.Result.{result_unwrap_or}
+use Rattle.reader.specs.declared.Refusal.{Refusal}
 use Rattle.reader.specs.declared.Reader.{Reader}
-use Rattle.reader.specs.declared.Fed.{Fed}
-use Rattle.reader.specs.declared.Finished.{Finished}
+use Rattle.reader.specs.declared.Outcome.{Outcome}
 use Rattle.reader.specs.Feed.{feed_of, fed_window, finish_of}
 use Rattle.demands.specs.Runs.{took_of}
 use Rattle.demands.proofs.Feeds.{took_some}
@@ -35,19 +37,24 @@ part_offered B at chunk end e =
     let q : end - at ≡ min chunk (length (drop at B)) = omega (arith, length-drop at B) in
     ap (λ (k : ℕ). take k (drop at B)) q ∙ take_least chunk (drop at B)
 
+-- what a refused feed takes is nothing
+pub took_is : (a : Result ℕ Refusal) → result_unwrap_or a 0 ≡ took_of a
+took_is (Ok t) = refl
+took_is (Err r) = refl
+
 -- where all is taken, the end is noted
-pub supplied_end : (s : Reader) (w B : List ℕ) (at chunk : ℕ) (f : Finished) → length B ≤ at → f ≡ finish_of s (length w)
+pub supplied_end : (s : Reader) (w B : List ℕ) (at chunk : ℕ) (f : Outcome Unit) → length B ≤ at → f ≡ finish_of s (length w)
     → (◌≡◌ {A = Supplied} (record { state = f.state; at = at }) (supplied_of s w B at chunk)) × (w ≡ supplied_window s w B at chunk)
 unfolding supplied_of supplied_window
 supplied_end s w B at chunk f h e = rw (le-leb (length B) at h, e) (refl, refl)
 
-module _ (s : Reader) (w B : List ℕ) (at chunk end t : ℕ) (f : Fed) (short : at < length B) (e : end ≡ at + min chunk (length B - at))
+module _ (s : Reader) (w B : List ℕ) (at chunk end t : ℕ) (f : Outcome ℕ) (short : at < length B) (e : end ≡ at + min chunk (length B - at))
     (fed : f ≡ feed_of s (length w) (length (take (end - at) (drop at B)))) (some : t ≡ took_of f.answer) where
   -- feed takes no more than there is
   pub took_within : at + t ≤ length B
   took_within =
       omega
-      (arith, some ∙ ap (λ (x : Fed). took_of x.answer) fed, took_some s (length w) (length (take (end - at) (drop at B))), ap length (part_offered B at chunk end e), length-take chunk (drop at B), length-drop at B)
+      (arith, some ∙ ap (λ (x : Outcome ℕ). took_of x.answer) fed, took_some s (length w) (length (take (end - at) (drop at B))), ap length (part_offered B at chunk end e), length-take chunk (drop at B), length-drop at B)
 
   -- otherwise the input's next bytes are fed
   pub supplied_bytes : (w' : List ℕ) → w' ≡ fed_window s w (take (end - at) (drop at B))

@@ -17,7 +17,9 @@ use Rattle.reading.specs.Reading.{reading}
 use Rattle.reading.specs.Lists.{is_found}
 use Rattle.reader.specs.declared.Reader.{Reader}
 use Rattle.reader.specs.declared.Answer.{Answer}
-use Rattle.reader.specs.declared.Answer.TheVariants.{Record, More, WindowLimit, InvalidStart, InvalidSeparator, UnequalLengths, UnexpectedEnd, End, Refused}
+use Rattle.reader.specs.declared.Answer.TheVariants.{Record, More, WindowLimit, InvalidStart, InvalidSeparator, UnequalLengths, UnexpectedEnd, End}
+use Rattle.std.specs.Prelude.{Result, Ok, Err}
+use Rattle.reader.specs.declared.Refusal.{Refusal}
 use Rattle.reader.specs.State.{most_bytes, fresh_of}
 use Rattle.reader.specs.Feed.{feed_of, fed_window}
 use Rattle.reader.specs.Next.{next_of}
@@ -42,21 +44,21 @@ use Rattle.protocol.proofs.Tallies.{plus, plus_one, tally_record, tally_closing,
 -- ---- what an answer is heard as
 
 -- of each kind: a record, a request, or an answer that closes, if it is no refusal; k is the absolute offset of the window's first byte
-abbrev HeardAs : ℕ → Answer → Kind → Type 0
+abbrev HeardAs : ℕ → Result Answer Refusal → Kind → Type 0
 HeardAs k a kind.Record = (x : read.Answer) × (heard_of k a ≡ some x) × (is_found x ≡ true)
-HeardAs k a kind.Request = a ≡ More
-HeardAs k a kind.Closing = ((n : ℕ) × (a ≡ Refused n)) ⊎ ((x : read.Answer) × (heard_of k a ≡ some x) × (is_found x ≡ false))
+HeardAs k a kind.Request = a ≡ Ok More
+HeardAs k a kind.Closing = ((r : Refusal) × (a ≡ Err r)) ⊎ ((x : read.Answer) × (heard_of k a ≡ some x) × (is_found x ≡ false))
 
-heard_as : (k : ℕ) (a : Answer) → HeardAs k a (kind_of a)
-heard_as k (Record r b) = (_, refl, refl)
-heard_as k More = refl
-heard_as k (WindowLimit L b) = inr (_, refl, refl)
-heard_as k (InvalidStart x L) = inr (_, refl, refl)
-heard_as k (InvalidSeparator x L i) = inr (_, refl, refl)
-heard_as k (UnequalLengths n m L i) = inr (_, refl, refl)
-heard_as k (UnexpectedEnd L i) = inr (_, refl, refl)
-heard_as k End = inr (_, refl, refl)
-heard_as k (Refused n) = inl (n, refl)
+heard_as : (k : ℕ) (a : Result Answer Refusal) → HeardAs k a (kind_of a)
+heard_as k (Ok (Record r b)) = (_, refl, refl)
+heard_as k (Ok More) = refl
+heard_as k (Ok (WindowLimit L b)) = inr (_, refl, refl)
+heard_as k (Ok (InvalidStart x L)) = inr (_, refl, refl)
+heard_as k (Ok (InvalidSeparator x L i)) = inr (_, refl, refl)
+heard_as k (Ok (UnequalLengths n m L i)) = inr (_, refl, refl)
+heard_as k (Ok (UnexpectedEnd L i)) = inr (_, refl, refl)
+heard_as k (Ok End) = inr (_, refl, refl)
+heard_as k (Err r) = inl (r, refl)
 
 -- ---- between two turns
 
@@ -152,7 +154,7 @@ module _ (B : List ℕ) (T : Tallied) (s : Reader) (w : List ℕ) (at k : ℕ) (
     abbrev b : Bench
     b = record { reader = s; window = w; taken = at; heard = [] }
 
-    more : (next_of s w).answer ≡ More
+    more : (next_of s w).answer ≡ Ok More
     more = heard kind.Request asks
 
     -- nothing is heard by it

@@ -1,9 +1,10 @@
 -- What a turn of the protocol does: the answers told apart, and how a request is answered.
 -- Assumes nothing.
-use Rattle.std.specs.Prelude.{ℕ, zero, suc, ◌+◌, ◌*◌, Bool, true, false, List, length, take, drop, leb}
+use Rattle.std.specs.Prelude.{ℕ, zero, suc, ◌+◌, ◌*◌, Bool, true, false, List, length, take, drop, leb, Result, Ok, Err}
 use Rattle.reader.specs.declared.Reader.{Reader}
 use Rattle.reader.specs.declared.Answer.{Answer}
-use Rattle.reader.specs.declared.Answer.TheVariants.{Record, More, WindowLimit, InvalidStart, InvalidSeparator, UnequalLengths, UnexpectedEnd, End, Refused}
+use Rattle.reader.specs.declared.Answer.TheVariants.{Record, More, WindowLimit, InvalidStart, InvalidSeparator, UnequalLengths, UnexpectedEnd, End}
+use Rattle.reader.specs.declared.Refusal.{Refusal}
 use Rattle.reader.specs.State.{fresh_of}
 use Rattle.reader.specs.Feed.{feed_of, fed_window, finish_of}
 use Rattle.reader.specs.Next.{next_of}
@@ -13,16 +14,19 @@ use Rattle.protocol.specs.declared.Kind.TheVariants as kind
 use Rattle.protocol.specs.declared.Supplied.{Supplied}
 
 -- a record is counted, a request is answered, anything else closes
-abbrev pub kind_of : Answer → Kind
-kind_of (Record r b) = kind.Record
-kind_of More = kind.Request
-kind_of (WindowLimit L b) = kind.Closing
-kind_of (InvalidStart x L) = kind.Closing
-kind_of (InvalidSeparator x L i) = kind.Closing
-kind_of (UnequalLengths n m L i) = kind.Closing
-kind_of (UnexpectedEnd L i) = kind.Closing
-kind_of End = kind.Closing
-kind_of (Refused n) = kind.Closing
+abbrev pub kind_in : Answer → Kind
+kind_in (Record r b) = kind.Record
+kind_in More = kind.Request
+kind_in (WindowLimit L b) = kind.Closing
+kind_in (InvalidStart x L) = kind.Closing
+kind_in (InvalidSeparator x L i) = kind.Closing
+kind_in (UnequalLengths n m L i) = kind.Closing
+kind_in (UnexpectedEnd L i) = kind.Closing
+kind_in End = kind.Closing
+
+abbrev pub kind_of : Result Answer Refusal → Kind
+kind_of (Ok a) = kind_in a
+kind_of (Err r) = kind.Closing
 
 -- the input's next bytes, a chunk at most
 abbrev pub offered : List ℕ → ℕ → ℕ → List ℕ

@@ -5,26 +5,18 @@
 ghost use Rattle.std.specs.Prelude.{◌≡◌, ◌≤◌, ◌<◌, length};
 ghost use Rattle.reading.specs.Reading.{reading};
 ghost use Rattle.reader.specs.State.{most_bytes, fresh_of};
-ghost use Rattle.demands.specs.Runs.{took_of};
 ghost use Rattle.protocol.specs.Tallies.{tally_of};
-ghost use Rattle.protocol.specs.Turns.{kind_of, supplied_of, supplied_window, window_after};
+ghost use Rattle.protocol.specs.Turns.{kind_of, kind_in, supplied_of, supplied_window, window_after};
 ghost use Rattle.protocol.specs.Outcome.{tallied_of, outcome_of, outcome, Leaves};
 
-use reader::{Answer, Opened, Reader, Taken};
+use reader::{Answer, Reader, Refusal};
 
 // How many records there are, the answer that closes the reading, and the state after it, which tells the position.
-#[derive(Clone, Copy)]
+#[derive(Clone, Copy, Debug, PartialEq, Eq)]
 pub struct Tally {
     pub records: u64,
-    pub closing: Answer,
+    pub closing: Result<Answer, Refusal>,
     pub state: Reader,
-}
-
-// The tally, or 1, 6 or 5.
-#[derive(Clone, Copy)]
-pub enum Counted {
-    Done(Tally),
-    Refused(u8),
 }
 
 // The state after a request was answered, and how much of the input is then taken.
@@ -42,8 +34,17 @@ enum Kind {
     Closing,
 }
 
-fn kind_of(answer: Answer) -> Kind
+fn kind_of(answer: Result<Answer, Refusal>) -> Kind
     ensures { result ≡ kind_of answer }
+{
+    match answer {
+        Ok(a) => kind_in(a),
+        Err(_) => Kind::Closing,
+    }
+}
+
+fn kind_in(answer: Answer) -> Kind
+    ensures { result ≡ kind_in answer }
 {
     match answer {
         Answer::Record(_, _) => Kind::Record,
@@ -54,17 +55,6 @@ fn kind_of(answer: Answer) -> Kind
         Answer::UnequalLengths(_, _, _, _) => Kind::Closing,
         Answer::UnexpectedEnd(_, _) => Kind::Closing,
         Answer::End => Kind::Closing,
-        Answer::Refused(_) => Kind::Closing,
-    }
-}
-
-// What feed says that it took.
-fn took(answer: Taken) -> usize
-    ensures { result ≡ took_of answer }
-{
-    match answer {
-        Taken::Took(t) => t,
-        Taken::Refused(_) => 0,
     }
 }
 
@@ -76,16 +66,13 @@ fn supply(state: Reader, window: &mut [u8], input: &[u8], at: usize, chunk: usiz
 {
     if input.len() <= at {
         let f = state.finish(window);
-        let state = f.state;
-        return Supplied { state, at };
+        return Supplied { state: f.state, at };
     }
-    let end = at + lines::least(chunk, input.len() - at);
+    let end = at + chunk.min(input.len() - at);
     let f = state.feed(window, &input[at..end]);
-    let state = f.state;
-    let answer = f.answer;
     Supplied {
-        state,
-        at: at + took(answer),
+        state: f.state,
+        at: at + f.answer.unwrap_or(0),
     }
 }
 
@@ -100,25 +87,21 @@ fn run(fresh: Reader, input: &[u8], window: &mut [u8], chunk: usize) -> Tally
     let mut records: u64 = 0;
     loop {
         let n = state.next(window);
-        let answer = n.answer;
-        let told = n.state;
-        let kind = kind_of(answer);
-        match kind {
+        match kind_of(n.answer) {
             Kind::Record => {
-                state = told;
+                state = n.state;
                 records += 1;
             }
             Kind::Request => {
-                let s = supply(told, window, input, at, chunk);
-                let supplied = s.state;
-                state = supplied;
+                let s = supply(n.state, window, input, at, chunk);
+                state = s.state;
                 at = s.at;
             }
             Kind::Closing => {
                 return Tally {
                     records,
-                    closing: answer,
-                    state: told,
+                    closing: n.answer,
+                    state: n.state,
                 };
             }
         }
@@ -127,22 +110,16 @@ fn run(fresh: Reader, input: &[u8], window: &mut [u8], chunk: usize) -> Tally
 
 // Counts the records of a whole input, which is handed to a reader in chunks of this size, through a lent window.
 // Refused: 1, a window that open refuses; 6, a chunk size of 0; 5, an input of more than 2^48 bytes; the window then stays as it was.
-pub fn count(input: &[u8], window: &mut [u8], chunk: usize) -> Counted
+pub fn count(input: &[u8], window: &mut [u8], chunk: usize) -> Result<Tally, Refusal>
     ensures answer { outcome_of result ≡ outcome input.now (length window.old) chunk }
     ensures bytes { Leaves input.now window.old chunk window.new result }
 {
-    let opened = Reader::open(window.len());
-    match opened {
-        Opened::Refused(k) => Counted::Refused(k),
-        Opened::Fresh(fresh) => {
-            if chunk == 0 {
-                return Counted::Refused(6);
-            }
-            if Reader::LIMIT < (input.len() as u64) {
-                return Counted::Refused(5);
-            }
-            let t = run(fresh, input, window, chunk);
-            Counted::Done(t)
-        }
+    let fresh = Reader::open(window.len())?;
+    if chunk == 0 {
+        return Err(Refusal::NothingToDo);
     }
+    if Reader::LIMIT < (input.len() as u64) {
+        return Err(Refusal::PastLimit);
+    }
+    Ok(run(fresh, input, window, chunk))
 }

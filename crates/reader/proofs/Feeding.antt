@@ -12,61 +12,50 @@ use borrow.Author.Tests.{le-leb, lt-leb, lt-ltb, le-ltb, ltb-false}
 use Rattle.lines.specs.Lines.{copied, moved_front}
 use Rattle.lines.proofs.Laws.{take_within, drop_within}
 use Rattle.reader.specs.declared.Reader.{Reader}
-use Rattle.reader.specs.declared.Taken.TheVariants.{Took, Refused}
-use Rattle.reader.specs.State.{most_bytes, own, Own}
-use Rattle.reader.specs.Feed.{held_of, taken_of, filled, front_of, moves, refused, taking_by, taking_of, feed_by, feed_of, kept_by, landed_on, landed, fed_window}
+use Rattle.std.specs.Prelude.{Result, Ok, Err}
+use Rattle.reader.specs.declared.Refusal.{Refusal}
+use Rattle.reader.specs.declared.Refusal.TheVariants.{PastLimit}
+use Rattle.reader.specs.State.{most_bytes, Own}
+use Rattle.reader.specs.Feed.{held_of, taken_of, filled, front_of, moves, refused, taking_by, taking_of, ready_of, feed_by, feed_of, kept_by, landed_on, landed, fed_window}
 use Rattle.reader.specs.Inside.{put_of, land_by, land_of}
-use Rattle.reader.proofs.Owning.{own_facts}
+use Rattle.reader.proofs.Owning.{own_facts, ready_own}
 
 -- what feed answers once it refuses with neither 2 nor 4 nor 3
 module _ (s : Reader) (n t : ℕ) (e : t ≡ taken_of s n) where
-  pub taking_far : most_bytes < s.byte.0 + held_of s + t → refused s 5 ≡ taking_of s n
+  pub taking_far : most_bytes < s.byte.0 + held_of s + t → refused s PastLimit ≡ taking_of s n
   unfolding taking_of
   taking_far h = simp (← e, lt-leb (s.byte.0 + held_of s + t) most_bytes h)
 
-  pub taking_move : s.byte.0 + held_of s + t ≤ most_bytes → s.window - s.fill < n → record { state = filled (front_of s) t; answer = Took t } ≡ taking_of s n
+  pub taking_move : s.byte.0 + held_of s + t ≤ most_bytes → s.window - s.fill < n → record { state = filled (front_of s) t; answer = Ok t } ≡ taking_of s n
   unfolding taking_of
   taking_move h k = simp (← e, le-leb (s.byte.0 + held_of s + t) most_bytes h, lt-ltb (s.window - s.fill) n k)
 
-  pub taking_stay : s.byte.0 + held_of s + t ≤ most_bytes → n ≤ s.window - s.fill → record { state = filled s t; answer = Took t } ≡ taking_of s n
+  pub taking_stay : s.byte.0 + held_of s + t ≤ most_bytes → n ≤ s.window - s.fill → record { state = filled s t; answer = Ok t } ≡ taking_of s n
   unfolding taking_of
   taking_stay h k = simp (← e, le-leb (s.byte.0 + held_of s + t) most_bytes h, le-ltb (s.window - s.fill) n k)
 
--- feed's answer, by the tests
+-- feed's answer, by whether the state is ready
 module _ (s : Reader) (w n : ℕ) where
-  pub feed_foreign : own s w ≡ false → refused s 2 ≡ feed_of s w n
+  pub feed_ready : ready_of s w ≡ Ok tt → taking_of s n ≡ feed_of s w n
   unfolding feed_of
-  feed_foreign e = rw e
+  feed_ready e = rw e
 
-  pub feed_ended : own s w ≡ true → s.ended ≡ true → refused s 4 ≡ feed_of s w n
+  pub feed_unready : (r : Refusal) → ready_of s w ≡ Err r → refused s r ≡ feed_of s w n
   unfolding feed_of
-  feed_ended e k = rw (e, k)
-
-  pub feed_unasked : own s w ≡ true → s.ended ≡ false → s.waiting ≡ false → refused s 3 ≡ feed_of s w n
-  unfolding feed_of
-  feed_unasked e k h = rw (e, k, h)
-
-  pub feed_taking : own s w ≡ true → s.ended ≡ false → s.waiting ≡ true → taking_of s n ≡ feed_of s w n
-  unfolding feed_of
-  feed_taking e k h = rw (e, k, h)
+  feed_unready r e = rw e
 
 -- where feed takes, the state is own, and what is taken is the stated minimum
-pub took_own : (s : Reader) (w n t : ℕ) → (feed_of s w n).answer ≡ Took t → Own s w × (t ≡ taken_of s n)
+pub took_own : (s : Reader) (w n t : ℕ) → (feed_of s w n).answer ≡ Ok t → Own s w × (t ≡ taken_of s n)
 unfolding feed_of taking_of
-took_own s w n t = go (own s w) refl s.ended s.waiting
+took_own s w n t = go (ready_of s w) refl
   where
-    never : {k : ℕ} → Refused k ≡ Took t → Own s w × (t ≡ taken_of s n)
-    never e = let z : ◌≡◌ {A = ℕ} 0 1 = cc in absurd (omega arith)
+    by : Own s w → (f : Bool) → (taking_by s n f).answer ≡ Ok t → Own s w × (t ≡ taken_of s n)
+    by o true e = (o, cc)
+    by o false e = let z : ◌≡◌ {A = ℕ} 0 1 = cc in absurd (omega arith)
 
-    by : own s w ≡ true → (f : Bool) → (taking_by s n f).answer ≡ Took t → Own s w × (t ≡ taken_of s n)
-    by o true e = (own_facts s w o, cc)
-    by o false e = never e
-
-    go : (o : Bool) → own s w ≡ o → (a b : Bool) → (feed_by s n o a b).answer ≡ Took t → Own s w × (t ≡ taken_of s n)
-    go false o a b e = never e
-    go true o true b e = never e
-    go true o false false e = never e
-    go true o false true e = by o (leb (s.byte.0 + held_of s + taken_of s n) most_bytes) e
+    go : (a : Result Unit Refusal) → ready_of s w ≡ a → (feed_by s n a).answer ≡ Ok t → Own s w × (t ≡ taken_of s n)
+    go (Ok u) r e = by (own_facts s w (ready_own s w r)) (leb (s.byte.0 + held_of s + taken_of s n) most_bytes) e
+    go (Err q) r e = let z : ◌≡◌ {A = ℕ} 0 1 = cc in absurd (omega arith)
 
 -- ---- the window's bytes
 
@@ -137,10 +126,10 @@ land_is s w chunk o = rw o.opened (go (moves s n) refl)
         ∙ rw (took, length-take-le s.fill w (omega (arith, o.inside, o.opened)))
 
 -- the window after feed, by its answer
-pub fed_took : (s : Reader) (w chunk : List ℕ) (t : ℕ) → (feed_of s (length w) (length chunk)).answer ≡ Took t → landed s w chunk ≡ fed_window s w chunk
+pub fed_took : (s : Reader) (w chunk : List ℕ) (t : ℕ) → (feed_of s (length w) (length chunk)).answer ≡ Ok t → landed s w chunk ≡ fed_window s w chunk
 unfolding fed_window
 fed_took s w chunk t e = rw e
 
-pub fed_refused : (s : Reader) (w chunk : List ℕ) (k : ℕ) → (feed_of s (length w) (length chunk)).answer ≡ Refused k → w ≡ fed_window s w chunk
+pub fed_refused : (s : Reader) (w chunk : List ℕ) (r : Refusal) → (feed_of s (length w) (length chunk)).answer ≡ Err r → w ≡ fed_window s w chunk
 unfolding fed_window
-fed_refused s w chunk k e = rw e
+fed_refused s w chunk r e = rw e

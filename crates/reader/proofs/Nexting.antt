@@ -1,28 +1,29 @@
 -- Laws of next: the notes after a search fit, and the answer is the reading's step.
 -- Assumes nothing.
-use mathlib.Core.Path.{◌≡◌, refl, sym, ap, ◌∙◌}
+use mathlib.Core.Path.{◌≡◌, refl, ap}
 use mathlib.Core.Bool.{Bool, true, false, not, ◌&&◌, and-true}
 use mathlib.Core.List.{List, [], ◌∷◌, ◌++◌}
 use Prim.Native.Nat.{ℕ, suc, ◌+◌, ◌-◌, ◌<◌, ◌≤◌}
 use native.Mathlib.Omega.{arith}
 use native.Mathlib.Nat.{le_refl}
-use lib.Dec.{leb, ltb, eqb, eqb-suc-zero}
+use lib.Dec.{leb, ltb, eqb}
 use lib.ListN.{length, take, drop, length-drop}
 use lib.Seq.{slice, take_all, length-take-le}
 use borrow.Author.Tests.{le-leb, lt-leb, leb-true, leb-false, lt-ltb, ltb-true, ne_eqb, not-true, not-false}
 use Rattle.reading.specs.Bytes.{LF, keep, line_ends, trim_cr, is_empty, pieces, all_blank}
 use Rattle.reading.specs.Reading.{Verdict, good, bad_start, bad_separator, bad_lengths, Step, onward, unended, closing, judged, validate, rest, record_of, complete, tail_rule, end_id}
 use Rattle.reading.specs.Reading as reading
-use Rattle.lines.proofs.Laws.{slice-take}
 use Rattle.record.specs.declared.Noted.{Noted}
 use Rattle.record.specs.declared.Noted.TheVariants.{Zero, One, Two, Three, Four}
 use Rattle.record.specs.declared.Record.{Record}
-use Rattle.record.specs.declared.Range.{Range}
+use Rattle.std.specs.Prelude.{Option, Err}
+use Rattle.record.specs.declared.Span.{Span}
 use Rattle.record.specs.Noted.{listed, after, gathered, sought_by, sought_of}
-use Rattle.record.specs.Check.{five_of, range_of, check_of}
+use Rattle.record.specs.Check.{five_of, span_of, check_of}
 use Rattle.reader.specs.declared.Byte.{Byte}
 use Rattle.reader.specs.declared.Reader.{Reader}
-use Rattle.reader.specs.declared.Answer.TheVariants.{More, WindowLimit, UnexpectedEnd, End, Refused}
+use Rattle.reader.specs.declared.Answer.TheVariants.{More, WindowLimit, UnexpectedEnd, End}
+use Rattle.reader.specs.declared.Refusal.TheVariants.{Foreign}
 use Rattle.reader.specs.State.{line, own, Notes, Own}
 use Rattle.reader.specs.Next.{deciding, settled_by, decided_of, onward_by, onward_of, searched_of, seeking_of, closed_of, next_of}
 use Rattle.reader.proofs.Owning.{both, fails}
@@ -202,7 +203,7 @@ module _ (H : List ℕ) (p L : ℕ) (e : Noted) where
   unfolding tail_of
   tail_blank q = rw q
 
-  pub tail_cut : all_blank (pieces H p (listed e)) ≡ false → (n : ℕ) → n ≡ length (listed e) → (i : Range) → i ≡ range_of (end_id H p (listed e))
+  pub tail_cut : all_blank (pieces H p (listed e)) ≡ false → (n : ℕ) → n ≡ length (listed e) → (i : Option Span) → i ≡ span_of (end_id H p (listed e))
       → deciding (UnexpectedEnd (line (L + n)) i) false true ≡ tail_of H p L e
   unfolding tail_of
   tail_cut q n f i g = rw (q, f, g)
@@ -210,14 +211,6 @@ module _ (H : List ℕ) (p L : ℕ) (e : Noted) where
 -- the bytes up to the end are all that are left
 pub slice_rest : (p : ℕ) (H : List ℕ) → slice p (length H) H ≡ drop p H
 slice_rest p H = ap (drop p) (take_all (length H) H (le_refl (length H)))
-
--- a line is blank if it has no bytes after `trim_cr`
-pub empty_is : (l : List ℕ) → eqb (length l) 0 ≡ is_empty l
-empty_is [] = refl
-empty_is (b ∷ bs) = eqb-suc-zero (length bs)
-
-pub blank_is : (t s : List ℕ) (from to : ℕ) → t ≡ trim_cr (take (to - from) (drop from s)) → eqb (length t) 0 ≡ is_empty (trim_cr (slice from to s))
-blank_is t s from to e = empty_is t ∙ ap is_empty (e ∙ ap trim_cr (sym (slice-take from to s)))
 
 -- the pieces of a tail, by the notes
 module _ (H : List ℕ) (p : ℕ) where
@@ -236,7 +229,7 @@ module _ (H : List ℕ) (p : ℕ) where
 
 -- next's answer, by the tests
 module _ (s : Reader) (w : List ℕ) where
-  pub next_foreign : own s (length w) ≡ false → record { state = s; answer = Refused 2 } ≡ next_of s w
+  pub next_foreign : own s (length w) ≡ false → record { state = s; answer = Err Foreign } ≡ next_of s w
   unfolding next_of
   next_foreign e = rw e
 

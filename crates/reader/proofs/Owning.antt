@@ -5,11 +5,13 @@ use mathlib.Core.Bool.{Bool, true, false, ◌&&◌, true≢false}
 use mathlib.Core.List.{List, [], ◌∷◌}
 use Prim.Native.Nat.{ℕ, suc, ◌+◌, ◌-◌, ◌<◌, ◌≤◌}
 use native.Mathlib.Omega.{arith}
-use lib.Dec.{leb, eqb}
-use borrow.Author.Tests.{le-leb, lt-leb, leb-true, leb-false, lt-ltb, ltb-true, eq-eqb, eqb-true}
+use borrow.Author.Tests.{le-leb, leb-true, lt-ltb, ltb-true, eq-eqb, eqb-true}
 use Rattle.record.specs.declared.Noted.{Noted}
+use Rattle.record.specs.declared.Noted.TheVariants.{Zero, One, Two, Three, Four}
 use Rattle.record.specs.Noted.{listed}
 use Rattle.reader.specs.declared.Reader.{Reader}
+use Rattle.std.specs.Prelude.{Ok}
+use Rattle.reader.specs.Feed.{ready_by, ready_of}
 use Rattle.reader.specs.State.{most_bytes, most_lines, notes_fit, own, Notes, Own}
 
 pub both : (a b : Bool) → (a && b) ≡ true → (a ≡ true) × (b ≡ true)
@@ -19,40 +21,6 @@ both false b e = let z : ◌≡◌ {A = Bool} true false = cc in absurd (true≢
 pub fails : (a b : Bool) → (a && b) ≡ false → a ≡ true → b ≡ false
 fails true b e h = e
 fails false b e h = let z : ◌≡◌ {A = Bool} true false = cc in absurd (true≢false z)
-
--- a test of a sum is the test of a difference, where that does not stop at 0
-leb_sub : (a b n : ℕ) → b ≤ n → leb a (n - b) ≡ leb (a + b) n
-leb_sub a b n h = go (leb (a + b) n) refl
-  where
-    go : (t : Bool) → leb (a + b) n ≡ t → leb a (n - b) ≡ t
-    go true e = let k = leb-true (a + b) n e in le-leb a (n - b) (omega arith)
-    go false e = let k = leb-false (a + b) n e in lt-leb a (n - b) (omega arith)
-
--- the tests that are left once start <= fill holds and so many bytes can be held; f is what the notes' test answered
-abbrev pub rest_of : Reader → ℕ → Bool → Bool
-rest_of s n f = eqb n s.window && leb s.fill s.window && f && leb s.start s.byte.0 && leb s.byte.0 (most_bytes - (s.fill - s.start)) && leb s.line.0 most_lines
-
-module _ (s : Reader) (n : ℕ) where
-  pub own_back : s.fill < s.start → false ≡ own s n
-  unfolding own
-  own_back h = go (eqb n s.window)
-    where
-      go : (t : Bool)
-          → false ≡ (t && (leb s.start s.fill && leb s.fill s.window) && notes_fit s.start s.fill s.mark (listed s.noted) && leb s.start s.byte.0 && leb (s.byte.0 + (s.fill - s.start)) most_bytes && leb s.line.0 most_lines)
-      go true = simp (lt-leb s.start s.fill h)
-      go false = refl
-
-  pub own_far : most_bytes < s.fill - s.start → false ≡ own s n
-  unfolding own
-  own_far h = go (eqb n s.window && (leb s.start s.fill && leb s.fill s.window) && notes_fit s.start s.fill s.mark (listed s.noted) && leb s.start s.byte.0)
-    where
-      go : (t : Bool) → false ≡ (t && leb (s.byte.0 + (s.fill - s.start)) most_bytes && leb s.line.0 most_lines)
-      go true = simp (lt-leb (s.byte.0 + (s.fill - s.start)) most_bytes (omega arith))
-      go false = refl
-
-  pub own_near : (f : Bool) → s.start ≤ s.fill → s.fill - s.start ≤ most_bytes → f ≡ notes_fit s.start s.fill s.mark (listed s.noted) → rest_of s n f ≡ own s n
-  unfolding own
-  own_near f h k e = rw (le-leb s.start s.fill h, leb_sub s.byte.0 (s.fill - s.start) most_bytes k, e)
 
 pub notes_facts : (from fill mark : ℕ) (es : List ℕ) → notes_fit from fill mark es ≡ true → Notes from fill mark es
 unfolding notes_fit
@@ -81,7 +49,8 @@ own_facts s n e =
       few = leb-true _ _ a.1;
     }
 
-fits_notes : (from fill mark : ℕ) (es : List ℕ) → Notes from fill mark es → notes_fit from fill mark es ≡ true
+-- and facts make the test true
+pub fits_notes : (from fill mark : ℕ) (es : List ℕ) → Notes from fill mark es → notes_fit from fill mark es ≡ true
 unfolding notes_fit
 fits_notes from fill mark [] n = rw (le-leb from mark n.0, le-leb mark fill n.1)
 fits_notes from fill mark (e ∷ es) n = rw (le-leb from e n.0, lt-ltb e fill n.1) (fits_notes (suc e) fill mark es n.2)
@@ -104,5 +73,46 @@ own_true s n o =
 pub notes_at : (a fill m : ℕ) (e f : Noted) → e ≡ f → Notes a fill m (listed e) → Notes a fill m (listed f)
 notes_at a fill m e f q n = subst (λ (x : Noted). Notes a fill m (listed x)) q n
 
+-- notes of n bytes that fit, by their count: they rise from p on, and lie before n
+module _ (p n : ℕ) (e : Noted) (fit : notes_fit p n n (listed e) ≡ true) where
+  seen : (f : Noted) → e ≡ f → Notes p n n (listed f)
+  seen f q = notes_at p n n e f q (notes_facts p n n (listed e) fit)
+
+  pub seen_none : e ≡ Zero → p ≤ n
+  seen_none q = omega (arith, seen Zero q)
+
+  pub seen_one : (a : ℕ) → e ≡ One a → (p ≤ a) × (a < n)
+  seen_one a q = let f = seen (One a) q in (omega (arith, f), omega (arith, f))
+
+  pub seen_two : (a b : ℕ) → e ≡ Two a b → (p ≤ a) × (a < b) × (b < n)
+  seen_two a b q = let f = seen (Two a b) q in (omega (arith, f), omega (arith, f), omega (arith, f))
+
+  pub seen_three : (a b c : ℕ) → e ≡ Three a b c → (a < b) × (b < c) × (c < n)
+  seen_three a b c q = let f = seen (Three a b c) q in (omega (arith, f), omega (arith, f), omega (arith, f))
+
+  pub seen_four : (a b c d : ℕ) → e ≡ Four a b c d → (a < b) × (b < c) × (c < d) × (d < n)
+  seen_four a b c d q = let f = seen (Four a b c d) q in (omega (arith, f), omega (arith, f), omega (arith, f), omega (arith, f))
+
+  -- the sought record starts among the bytes, or right behind them
+  pub seen_start : p ≤ n
+  seen_start = by e (notes_facts p n n (listed e) fit)
+    where
+      by : (f : Noted) → Notes p n n (listed f) → p ≤ n
+      by Zero g = omega (arith, g)
+      by (One a) g = omega (arith, g)
+      by (Two a b) g = omega (arith, g)
+      by (Three a b c) g = omega (arith, g)
+      by (Four a b c d) g = omega (arith, g)
+
 pub own_self : (s : Reader) (n : ℕ) → Own s n → Own s s.window
 own_self s n h = subst (λ (k : ℕ). Own s k) h.opened h
+
+-- whether a state may be fed, or told the end
+module _ (s : Reader) (w : ℕ) where
+  -- a state that is ready is own
+  pub ready_own : ready_of s w ≡ Ok tt → own s w ≡ true
+  ready_own = go (own s w) s.ended s.waiting
+    where
+      go : (a b c : Bool) → ready_by a b c ≡ Ok tt → a ≡ true
+      go false b c e = let z : ◌≡◌ {A = ℕ} 0 1 = cc in absurd (omega arith)
+      go true b c e = refl

@@ -2,7 +2,7 @@
 -- Assumes nothing.
 use Prim.Native.Nat.{ℕ, ◌≤◌, ◌<◌}
 use native.Mathlib.Omega.{arith}
-use mathlib.Core.Path.{◌≡◌, refl, ◌∙◌}
+use mathlib.Core.Path.{◌≡◌, refl, ap, ◌∙◌}
 use mathlib.Core.Bool.{Bool, true, false, ◌||◌}
 use mathlib.Core.Logic.{◌↔◌}
 use mathlib.Core.List.{List, [], ◌∷◌}
@@ -17,6 +17,7 @@ use Rattle.record.specs.declared.Noted.TheVariants.{Zero, One, Two, Three, Four}
 use Rattle.record.specs.Noted.{listed, after, gathered, sought_of}
 use Rattle.reader.specs.declared.Byte.{Byte}
 use Rattle.reader.specs.declared.Reader.{Reader}
+use Rattle.std.specs.Prelude.{Ok}
 use Rattle.reader.specs.declared.Answer.TheVariants.{More}
 use Rattle.reader.specs.State.{own, Own}
 use Rattle.reader.specs.Waiting.{settles_now, Wants}
@@ -46,19 +47,19 @@ decided_asks : (H : List ℕ) (W p L : ℕ) (b : Byte) (es : List ℕ) (t : Bool
 decided_asks H W p L b es true e = let z : ◌≡◌ {A = ℕ} 0 1 = cc in absurd (omega arith)
 decided_asks H W p L b es false e = refl
 
-seeking_more : (s : Reader) (w : List ℕ) → ((seeking_of s w).answer ≡ More) ↔ (settles_now s w ≡ false)
+seeking_more : (s : Reader) (w : List ℕ) → ((seeking_of s w).answer ≡ Ok More) ↔ (settles_now s w ≡ false)
 unfolding seeking_of decided_of
 seeking_more s w = (
-  decided_more (take s.fill w) s.window s.start s.line.0 s.byte (listed (searched_of s w).noted) (settles_now s w),
-  decided_asks (take s.fill w) s.window s.start s.line.0 s.byte (listed (searched_of s w).noted) (settles_now s w),
+  λ e. decided_more (take s.fill w) s.window s.start s.line.0 s.byte (listed (searched_of s w).noted) (settles_now s w) cc,
+  λ e. ap Ok (decided_asks (take s.fill w) s.window s.start s.line.0 s.byte (listed (searched_of s w).noted) (settles_now s w) e),
 )
 
 -- MORE INPUT IS WANTED EXACTLY IF the reading is open, the record isn't complete, the end isn't noted and fewer than W bytes are held from the sought start
-pub more_exactly : (s : Reader) (w : List ℕ) → own s (length w) ≡ true → ((next_of s w).answer ≡ More) ↔ ((s.closed ≡ false) × (settles_now (onward_of s) w ≡ false))
+pub more_exactly : (s : Reader) (w : List ℕ) → own s (length w) ≡ true → ((next_of s w).answer ≡ Ok More) ↔ ((s.closed ≡ false) × (settles_now (onward_of s) w ≡ false))
 unfolding next_of
 more_exactly s w o = rw o (go s.closed)
   where
-    go : (c : Bool) → ((next_by s w true c).answer ≡ More) ↔ ((c ≡ false) × (settles_now (onward_of s) w ≡ false))
+    go : (c : Bool) → ((next_by s w true c).answer ≡ Ok More) ↔ ((c ≡ false) × (settles_now (onward_of s) w ≡ false))
     go true = (λ e. let z : ◌≡◌ {A = ℕ} 0 1 = cc in absurd (omega arith), λ e. let z : ◌≡◌ {A = ℕ} 0 1 = cc e.0 in absurd (omega arith))
     go false = (λ e. (refl, (seeking_more (onward_of s) w).0 e), λ e. (seeking_more (onward_of s) w).1 e.1)
 
@@ -86,7 +87,7 @@ sought_all H (Two a b) m h k = gathered_all (length H) (a ∷ b ∷ after H m) k
 sought_all H (Three a b c) m h k = gathered_all (length H) (a ∷ b ∷ c ∷ after H m) k
 sought_all H (Four a b c d) m h k = absurd (omega arith)
 
-seeking_wants : (s : Reader) (w : List ℕ) → s.fill ≤ length w → length (listed s.noted) < 4 → (seeking_of s w).answer ≡ More → Wants (seeking_of s w).state
+seeking_wants : (s : Reader) (w : List ℕ) → s.fill ≤ length w → length (listed s.noted) < 4 → (seeking_of s w).answer ≡ Ok More → Wants (seeking_of s w).state
 unfolding seeking_of decided_of
 seeking_wants s w fits few e =
     let H : List ℕ = take s.fill w in
@@ -102,7 +103,7 @@ seeking_wants s w fits few e =
     }
 
 -- AFTER A REQUEST the state waits, the end is not noted, there is room for at least one byte, and every held byte is searched
-pub next_wants : (s : Reader) (w : List ℕ) → Own s (length w) → (next_of s w).answer ≡ More → Wants (next_of s w).state
+pub next_wants : (s : Reader) (w : List ℕ) → Own s (length w) → (next_of s w).answer ≡ Ok More → Wants (next_of s w).state
 unfolding next_of
 next_wants s w o = rw (own_true s (length w) o) (go s.closed)
   where
@@ -120,12 +121,12 @@ next_wants s w o = rw (own_true s (length w) o) (go s.closed)
     few (Three a b c) q = rw q (omega arith)
     few (Four a b c d) q = omega arith
 
-    go : (c : Bool) → (next_by s w true c).answer ≡ More → Wants (next_by s w true c).state
+    go : (c : Bool) → (next_by s w true c).answer ≡ Ok More → Wants (next_by s w true c).state
     go true e = let z : ◌≡◌ {A = ℕ} 0 1 = cc in absurd (omega arith)
     go false e = seeking_wants (onward_of s) w (omega (arith, fill_is s.noted, o.inside, o.opened)) (few s.noted refl) e
 
 -- AFTER THE END IS NOTED next never asks for input
-pub ended_answers : (s : Reader) (w : List ℕ) → Own s (length w) → s.ended ≡ true → (next_of s w).answer ≡ More → ⊥
+pub ended_answers : (s : Reader) (w : List ℕ) → Own s (length w) → s.ended ≡ true → (next_of s w).answer ≡ Ok More → ⊥
 ended_answers s w o e f =
     let d = ((more_exactly s w (own_true s (length w) o)).0 f).1 in
     let k = or_fails (leb 4 (length (listed (searched_of (onward_of s) w).noted))) (leb (onward_of s).window (length (rest (take (onward_of s).fill w) (onward_of s).start)) || (onward_of s).ended) d in

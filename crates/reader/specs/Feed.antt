@@ -1,15 +1,13 @@
 -- Feed and finish: "Feeding the window" of document 01.
 -- Assumes nothing.
-use Rattle.std.specs.Prelude.{ℕ, ◌+◌, ◌-◌, min, Bool, true, false, List, ◌++◌, length, take, drop, leb, ltb}
+use Rattle.std.specs.Prelude.{ℕ, ◌+◌, ◌-◌, min, Bool, true, false, List, ◌++◌, length, take, drop, leb, ltb, Result, Ok, Err}
 use Rattle.std.proofs.Math.Seq.{slice}
 use Rattle.record.specs.declared.Noted.{Noted}
 use Rattle.record.specs.declared.Noted.TheVariants.{Zero, One, Two, Three, Four}
 use Rattle.reader.specs.declared.Reader.{Reader}
-use Rattle.reader.specs.declared.Taken.{Taken}
-use Rattle.reader.specs.declared.Taken.TheVariants.{Took, Refused}
-use Rattle.reader.specs.declared.Fed.{Fed}
-use Rattle.reader.specs.declared.Ending.TheVariants as endings
-use Rattle.reader.specs.declared.Finished.{Finished}
+use Rattle.reader.specs.declared.Refusal.{Refusal}
+use Rattle.reader.specs.declared.Refusal.TheVariants.{Foreign, NotWaiting, EndNoted, PastLimit}
+use Rattle.reader.specs.declared.Outcome.{Outcome}
 use Rattle.reader.specs.State.{most_bytes, state_of, own}
 
 -- the held bytes from the sought record's start
@@ -45,27 +43,36 @@ abbrev pub front_if : Bool → Reader → Reader
 front_if true s = front_of s
 front_if false s = s
 
-abbrev pub refused : Reader → ℕ → Fed
-refused s k = record { state = s; answer = Refused k }
+abbrev pub refused : Reader → Refusal → Outcome ℕ
+refused s r = record { state = s; answer = Err r }
 
 -- by the test: what feed would take does not end past byte 2^48
-abbrev pub taking_by : Reader → ℕ → Bool → Fed
-taking_by s n true = record { state = filled (front_if (moves s n) s) (taken_of s n); answer = Took (taken_of s n) }
-taking_by s n false = refused s 5
+abbrev pub taking_by : Reader → ℕ → Bool → Outcome ℕ
+taking_by s n true = record { state = filled (front_if (moves s n) s) (taken_of s n); answer = Ok (taken_of s n) }
+taking_by s n false = refused s PastLimit
 
-unfoldable pub taking_of : Reader → ℕ → Fed
+unfoldable pub taking_of : Reader → ℕ → Outcome ℕ
 taking_of s n = taking_by s n (leb (s.byte.0 + held_of s + taken_of s n) most_bytes)
 
--- by the tests: the state is own, the end is noted, the state is waiting. Refusals in the order 2, 4, 3, 5
-abbrev pub feed_by : Reader → ℕ → Bool → Bool → Bool → Fed
-feed_by s n false ended waiting = refused s 2
-feed_by s n true true waiting = refused s 4
-feed_by s n true false false = refused s 3
-feed_by s n true false true = taking_of s n
+-- by the tests: the state is own, the end is noted, the state is waiting. Refusals in the order 2, 4, 3
+abbrev pub ready_by : Bool → Bool → Bool → Result Unit Refusal
+ready_by false ended waiting = Err Foreign
+ready_by true true waiting = Err EndNoted
+ready_by true false false = Err NotWaiting
+ready_by true false true = Ok tt
+
+-- the state may be fed, or told the end, with a window of w bytes
+abbrev pub ready_of : Reader → ℕ → Result Unit Refusal
+ready_of s w = ready_by (own s w) s.ended s.waiting
+
+-- refusals in the order 2, 4, 3, 5
+abbrev pub feed_by : Reader → ℕ → Result Unit Refusal → Outcome ℕ
+feed_by s n (Ok u) = taking_of s n
+feed_by s n (Err r) = refused s r
 
 -- feed's state and answer, for a window of w bytes and a chunk of n
-unfoldable pub feed_of : Reader → ℕ → ℕ → Fed
-feed_of s w n = feed_by s n (own s w) s.ended s.waiting
+unfoldable pub feed_of : Reader → ℕ → ℕ → Outcome ℕ
+feed_of s w n = feed_by s n (ready_of s w)
 
 -- the window's bytes with the kept ones at its front, or as they are
 abbrev pub kept_by : Bool → Reader → List ℕ → List ℕ
@@ -79,9 +86,9 @@ landed_on front chunk w = front ++ (chunk ++ drop (length front + length chunk) 
 unfoldable pub landed : Reader → List ℕ → List ℕ → List ℕ
 landed s w chunk = landed_on (kept_by (moves s (length chunk)) s w) (take (taken_of s (length chunk)) chunk) w
 
-abbrev pub fed_by : Reader → List ℕ → List ℕ → Taken → List ℕ
-fed_by s w chunk (Took t) = landed s w chunk
-fed_by s w chunk (Refused k) = w
+abbrev pub fed_by : Reader → List ℕ → List ℕ → Result ℕ Refusal → List ℕ
+fed_by s w chunk (Ok t) = landed s w chunk
+fed_by s w chunk (Err r) = w
 
 -- the window after feed: a refused call leaves it as it was
 unfoldable pub fed_window : Reader → List ℕ → List ℕ → List ℕ
@@ -91,12 +98,10 @@ fed_window s w chunk = fed_by s w chunk (feed_of s (length w) (length chunk)).an
 abbrev pub ended_of : Reader → Reader
 ended_of s = state_of s.window s.start s.fill s.noted s.mark s.line.0 s.byte.0 true s.waiting s.closed
 
-abbrev pub finish_by : Reader → Bool → Bool → Bool → Finished
-finish_by s false ended waiting = record { state = s; answer = endings.Refused 2 }
-finish_by s true true waiting = record { state = s; answer = endings.Refused 4 }
-finish_by s true false false = record { state = s; answer = endings.Refused 3 }
-finish_by s true false true = record { state = ended_of s; answer = endings.Noted }
+abbrev pub finish_by : Reader → Result Unit Refusal → Outcome Unit
+finish_by s (Ok u) = record { state = ended_of s; answer = Ok tt }
+finish_by s (Err r) = record { state = s; answer = Err r }
 
--- finish, for a window of w bytes
-unfoldable pub finish_of : Reader → ℕ → Finished
-finish_of s w = finish_by s (own s w) s.ended s.waiting
+-- finish, for a window of w bytes. Refusals in the order 2, 4, 3
+unfoldable pub finish_of : Reader → ℕ → Outcome Unit
+finish_of s w = finish_by s (ready_of s w)

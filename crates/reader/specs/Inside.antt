@@ -1,23 +1,25 @@
 -- What the private helpers answer, and the facts that they are handed: steps on the way, which no public promise cites.
 -- Assumes nothing.
-use Rattle.std.specs.Prelude.{ℕ, ◌+◌, ◌-◌, ◌≤◌, Bool, true, false, List, ◌++◌, length, take, drop, ltb}
+use Rattle.std.specs.Prelude.{ℕ, ◌+◌, ◌-◌, ◌≤◌, Bool, true, false, List, ◌++◌, length, take, drop, ltb, Result, Ok, Err}
 use Rattle.reading.specs.Bytes.{pieces, all_blank}
 use Rattle.reading.specs.Reading.{validate, end_id}
 use Rattle.lines.specs.Lines.{moved_front}
 use Rattle.record.specs.declared.Noted.{Noted}
 use Rattle.record.specs.declared.Noted.TheVariants.{Zero, One, Two, Three, Four}
 use Rattle.record.specs.declared.Record.{Record}
-use Rattle.record.specs.declared.Check.{Check}
-use Rattle.record.specs.declared.Check.TheVariants.{Good, Start, Separator, Lengths}
+use Rattle.record.specs.declared.Invalid.{Invalid}
+use Rattle.record.specs.declared.Invalid.TheVariants.{Start, Separator, Lengths}
 use Rattle.record.specs.Noted.{listed}
-use Rattle.record.specs.Check.{five_of, range_of, check_of}
+use Rattle.record.specs.Check.{five_of, span_of, check_of}
 use Rattle.reader.specs.declared.Line.{Line}
 use Rattle.reader.specs.declared.Byte.{Byte}
 use Rattle.reader.specs.declared.Position.{Position}
 use Rattle.reader.specs.declared.Reader.{Reader}
+use Rattle.reader.specs.declared.Answer.{Answer}
 use Rattle.reader.specs.declared.Answer.TheVariants.{Record as a_record, InvalidStart, InvalidSeparator, UnequalLengths, UnexpectedEnd, End}
 use Rattle.reader.specs.declared.Decided.{Decided}
-use Rattle.reader.specs.declared.Moved.{Moved}
+use Rattle.reader.specs.declared.Outcome.{Outcome}
+use Rattle.reader.specs.declared.Place.{Place}
 use Rattle.reader.specs.State.{line, Notes}
 use Rattle.reader.specs.Next.{deciding}
 use Rattle.reader.specs.Seek.{moved_by, is_held}
@@ -45,16 +47,19 @@ numbers_of (Two a b) start end = nothing_of
 
 abbrev pub tail_by : List ℕ → ℕ → ℕ → Noted → Bool → Decided
 tail_by H p L e true = deciding End false true
-tail_by H p L e false = deciding (UnexpectedEnd (line (L + length (listed e))) (range_of (end_id H p (listed e)))) false true
+tail_by H p L e false = deciding (UnexpectedEnd (line (L + length (listed e))) (span_of (end_id H p (listed e)))) false true
 
 unfoldable pub tail_of : List ℕ → ℕ → ℕ → Noted → Decided
 tail_of H p L e = tail_by H p L e (all_blank (pieces H p (listed e)))
 
-abbrev pub judged_by : Record → ℕ → Byte → Bool → Check → Decided
-judged_by r L b last Good = deciding (a_record r b) false last
-judged_by r L b last (Start x) = deciding (InvalidStart x (line L)) false true
-judged_by r L b last (Separator x i) = deciding (InvalidSeparator x (line (L + 2)) i) false true
-judged_by r L b last (Lengths n m i) = deciding (UnequalLengths n m (line L) i) false true
+abbrev pub invalid_of : ℕ → Invalid → Answer
+invalid_of L (Start x) = InvalidStart x (line L)
+invalid_of L (Separator x i) = InvalidSeparator x (line (L + 2)) i
+invalid_of L (Lengths n m i) = UnequalLengths n m (line L) i
+
+abbrev pub judged_by : Record → ℕ → Byte → Bool → Result Unit Invalid → Decided
+judged_by r L b last (Ok u) = deciding (a_record r b) false last
+judged_by r L b last (Err i) = deciding (invalid_of L i) false true
 
 unfoldable pub judged_of : List ℕ → Record → ℕ → Byte → Bool → Decided
 judged_of H r L b last = judged_by r L b last (check_of (validate H (five_of r)))
@@ -62,7 +67,7 @@ judged_of H r L b last = judged_by r L b last (check_of (validate H (five_of r))
 abbrev pub position_at : Line → Byte → Position
 position_at l b = record { line = l; byte = b }
 
-abbrev pub moved_of : Reader → Line → Byte → Moved
+abbrev pub moved_of : Reader → Line → Byte → Outcome Place
 moved_of s l b = moved_by s (position_at l b) (is_held s b.0)
 
 -- a state that seeks a record in a window of n bytes: its line may be four above a handed-in state's

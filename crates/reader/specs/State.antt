@@ -1,6 +1,6 @@
 -- The reader's state: open, position, and the foreign-state test.
 -- Assumes nothing.
-use Rattle.std.specs.Prelude.{ℕ, suc, ◌+◌, ◌-◌, ◌≤◌, ◌<◌, ◌≡◌, Bool, true, false, ◌&&◌, List, [], ◌∷◌, leb, ltb, eqb}
+use Rattle.std.specs.Prelude.{ℕ, suc, ◌+◌, ◌-◌, ◌≤◌, ◌<◌, ◌≡◌, Bool, true, false, ◌&&◌, List, [], ◌∷◌, leb, ltb, eqb, Result, Ok, Err}
 use Rattle.record.specs.declared.Noted.{Noted}
 use Rattle.record.specs.declared.Noted.TheVariants.{Zero}
 use Rattle.record.specs.Noted.{listed}
@@ -8,8 +8,8 @@ use Rattle.reader.specs.declared.Line.{Line}
 use Rattle.reader.specs.declared.Byte.{Byte}
 use Rattle.reader.specs.declared.Position.{Position}
 use Rattle.reader.specs.declared.Reader.{Reader}
-use Rattle.reader.specs.declared.Opened.{Opened}
-use Rattle.reader.specs.declared.Opened.TheVariants.{Fresh, Refused}
+use Rattle.reader.specs.declared.Refusal.{Refusal}
+use Rattle.reader.specs.declared.Refusal.TheVariants.{WindowSize, Foreign, NotWaiting, EndNoted, PastLimit, NothingToDo}
 
 -- window sizes run from 3 to 16,777,216
 abbrev pub smallest : ℕ
@@ -41,12 +41,21 @@ state_of W start fill noted mark L b ended waiting closed =
 abbrev pub fresh_of : ℕ → Reader
 fresh_of W = state_of W 0 0 Zero 0 1 0 false true false
 
-abbrev pub open_by : ℕ → Bool → Opened
-open_by W true = Fresh (fresh_of W)
-open_by W false = Refused 1
+-- document 01's number of a refusal
+abbrev pub number_of : Refusal → ℕ
+number_of WindowSize = 1
+number_of Foreign = 2
+number_of NotWaiting = 3
+number_of EndNoted = 4
+number_of PastLimit = 5
+number_of NothingToDo = 6
+
+abbrev pub open_by : ℕ → Bool → Result Reader Refusal
+open_by W true = Ok (fresh_of W)
+open_by W false = Err WindowSize
 
 -- open: refused with 1 for W below 3 or above 16,777,216
-unfoldable pub open_of : ℕ → Opened
+unfoldable pub open_of : ℕ → Result Reader Refusal
 open_of W = open_by W (leb smallest W && leb W largest)
 
 -- the position: the record last answered, the one being sought, or the one in error

@@ -2,36 +2,36 @@
 // Feed and finish bring input, next answers, seek moves, position tells. Each call takes any state, window and numbers, and does its own checking.
 #![tactic(auto)]
 
-ghost use Rattle.std.specs.Prelude.{◌≡◌, false, ◌+◌, ◌-◌, ◌≤◌, ◌<◌, length};
+ghost use Rattle.std.specs.Prelude.{◌≡◌, true, false, ◌+◌, ◌-◌, ◌≤◌, ◌<◌, length};
 ghost use Rattle.std.proofs.Math.Seq.{slice};
 ghost use Rattle.reading.specs.Bytes.{is_empty, trim_cr, pieces, all_blank};
 ghost use Rattle.reading.specs.Reading.{end_id};
 ghost use Rattle.record.specs.Noted.{listed};
-ghost use Rattle.record.specs.Check.{range_of};
-ghost use Rattle.reader.specs.State.{open_of, position_of, notes_fit, own, Own, Notes};
-ghost use Rattle.reader.specs.Feed.{feed_of, taking_of, finish_of, fed_window, filled, front_of, notes_from};
+ghost use Rattle.record.specs.Check.{span_of};
+ghost use Rattle.reader.specs.State.{number_of, open_of, position_of, notes_fit, own, Own, Notes};
+ghost use Rattle.reader.specs.Feed.{ready_of, feed_of, taking_of, finish_of, fed_window, filled, front_of, notes_from};
 ghost use Rattle.reader.specs.Next.{next_of, seeking_of, onward_of, decided_of};
 ghost use Rattle.reader.specs.Seek.{seek_of, moved_by};
-ghost use Rattle.reader.specs.Inside.{put_of, land_of, nothing_of, numbers_of, tail_of, judged_of, position_at, moved_of, Seeks};
+ghost use Rattle.reader.specs.Inside.{put_of, land_of, nothing_of, numbers_of, tail_of, invalid_of, judged_of, position_at, moved_of, Seeks};
 
-use record::{Check, Noted, Range, Record};
+use record::{Invalid, Noted, Record, Span};
 
 // Line numbers and byte offsets are kinds that can't be mixed.
-#[derive(Clone, Copy)]
+#[derive(Clone, Copy, Debug, PartialEq, Eq)]
 pub struct Line(pub u64);
 
-#[derive(Clone, Copy)]
+#[derive(Clone, Copy, Debug, PartialEq, Eq)]
 pub struct Byte(pub u64);
 
 // Where a record starts: its line, and its offset in the input.
-#[derive(Clone, Copy)]
+#[derive(Clone, Copy, Debug, PartialEq, Eq)]
 pub struct Position {
     pub line: Line,
     pub byte: Byte,
 }
 
 // The state. Held bytes are window[..fill]; window[0] is the input's byte number byte - start.
-#[derive(Clone, Copy)]
+#[derive(Clone, Copy, Debug, PartialEq, Eq)]
 pub struct Reader {
     pub window: usize, // the window's length
     pub start: usize, // where the record starts that is sought or was answered
@@ -45,71 +45,42 @@ pub struct Reader {
     pub closed: bool, // only Ends follow
 }
 
-// What open answers: a fresh state, or 1.
-#[derive(Clone, Copy)]
-pub enum Opened {
-    Fresh(Reader),
-    Refused(u8),
+// Why a call is refused, by document 01's numbers from 1 on. A refused call changes nothing.
+#[derive(Clone, Copy, Debug, PartialEq, Eq)]
+pub enum Refusal {
+    WindowSize, // open: the window is shorter than 3 or longer than 16,777,216
+    Foreign, // the state is none of a window of this length
+    NotWaiting, // feed or finish: the state is not waiting for input
+    EndNoted, // feed or finish: the end is noted
+    PastLimit, // what is fed would end past byte 2^48; the line or the byte is above 2^48
+    NothingToDo, // no record is wanted, or there is no room for one; a chunk size of 0
 }
 
-// What feed took, or 2, 4, 3 or 5.
-#[derive(Clone, Copy)]
-pub enum Taken {
-    Took(usize),
-    Refused(u8),
-}
-
-#[derive(Clone, Copy)]
-pub struct Fed {
+// What a call answers, and the state after it. A refused call hands the state back as it was.
+#[derive(Clone, Copy, Debug, PartialEq, Eq)]
+pub struct Outcome<T> {
     pub state: Reader,
-    pub answer: Taken,
-}
-
-// The end is noted, or 2, 4 or 3.
-#[derive(Clone, Copy)]
-pub enum Ending {
-    Noted,
-    Refused(u8),
-}
-
-#[derive(Clone, Copy)]
-pub struct Finished {
-    pub state: Reader,
-    pub answer: Ending,
+    pub answer: Result<T, Refusal>,
 }
 
 // What next answers. A record's five numbers and an id's range are places in the window; the byte beside them is absolute.
-#[derive(Clone, Copy)]
+#[derive(Clone, Copy, Debug, PartialEq, Eq)]
 pub enum Answer {
     Record(Record, Byte),
     More,
     WindowLimit(Line, Byte),
     InvalidStart(u8, Line),
-    InvalidSeparator(u8, Line, Range),
-    UnequalLengths(usize, usize, Line, Range),
-    UnexpectedEnd(Line, Range),
+    InvalidSeparator(u8, Line, Option<Span>),
+    UnequalLengths(usize, usize, Line, Option<Span>),
+    UnexpectedEnd(Line, Option<Span>),
     End,
-    Refused(u8),
 }
 
-#[derive(Clone, Copy)]
-pub struct Next {
-    pub state: Reader,
-    pub answer: Answer,
-}
-
-// The place is among the held bytes; or the byte to feed from; or 2 or 5.
-#[derive(Clone, Copy)]
+// What seek answers: the place is among the held bytes, or the byte to feed from.
+#[derive(Clone, Copy, Debug, PartialEq, Eq)]
 pub enum Place {
     Inside,
     FeedFrom(Byte),
-    Refused(u8),
-}
-
-#[derive(Clone, Copy)]
-pub struct Moved {
-    pub state: Reader,
-    pub answer: Place,
 }
 
 // What next answers but for the state's numbers, and whether it then waits or is closed.
@@ -118,6 +89,21 @@ pub struct Decided {
     pub answer: Answer,
     pub waiting: bool,
     pub closed: bool,
+}
+
+impl From<Refusal> for u8 {
+    ghost from_gives = { λ refusal number. number ≡ number_of refusal };
+
+    fn from(refusal: Refusal) -> u8 {
+        match refusal {
+            Refusal::WindowSize => 1,
+            Refusal::Foreign => 2,
+            Refusal::NotWaiting => 3,
+            Refusal::EndNoted => 4,
+            Refusal::PastLimit => 5,
+            Refusal::NothingToDo => 6,
+        }
+    }
 }
 
 impl Reader {
@@ -132,16 +118,16 @@ impl Reader {
     pub const LINES: u64 = 562949953421312;
 
     // A fresh state for windows of this length: line 1, byte 0, nothing held, waiting.
-    pub fn open(window: usize) -> Opened
+    pub fn open(window: usize) -> Result<Reader, Refusal>
         ensures { result ≡ open_of window }
     {
         if window < Reader::SMALLEST {
-            return Opened::Refused(1);
+            return Err(Refusal::WindowSize);
         }
         if Reader::LARGEST < window {
-            return Opened::Refused(1);
+            return Err(Refusal::WindowSize);
         }
-        Opened::Fresh(Reader {
+        Ok(Reader {
             window,
             start: 0,
             fill: 0,
@@ -165,55 +151,58 @@ impl Reader {
     }
 
     // Not foreign: the state belongs to a window of n bytes.
+    #[tactic(auto, unfolding(crate::specs::State::own))]
     pub fn owns(self, n: usize) -> bool
         ensures { result ≡ own self n }
     {
-        let start = self.start;
-        let fill = self.fill;
-        if fill < start {
-            return false;
-        }
-        let held = (fill - start) as u64;
-        if Reader::LIMIT < held {
-            return false;
-        }
         let line = self.line;
         let byte = self.byte;
-        let noted = self.noted;
-        let notes = notes_fit(noted, start, fill, self.mark);
-        (n == self.window)
-            & (fill <= self.window)
-            & notes
-            & (start as u64 <= byte.0)
-            & (byte.0 <= Reader::LIMIT - held)
-            & (line.0 <= Reader::LINES)
+        if self.fill < self.start {
+            return false;
+        }
+        let held = (self.fill - self.start) as u64;
+        n == self.window
+            && self.fill <= self.window
+            && notes_fit(self.noted, self.start, self.fill, self.mark)
+            && self.start as u64 <= byte.0
+            && held <= Reader::LIMIT
+            && byte.0 <= Reader::LIMIT - held
+            && line.0 <= Reader::LINES
     }
 }
 
 // The noted line ends rise from start on and lie before fill, and the mark is past the last of them, up to fill.
+#[tactic(auto, unfolding(crate::specs::State::notes_fit))]
 fn notes_fit(noted: Noted, start: usize, fill: usize, mark: usize) -> bool
     ensures { result ≡ notes_fit start fill mark (listed noted) }
 {
     match noted {
-        Noted::Zero => (start <= mark) & (mark <= fill),
-        Noted::One(a) => (start <= a) & ((a < fill) & ((a < mark) & (mark <= fill))),
+        Noted::Zero => start <= mark && mark <= fill,
+        Noted::One(a) => start <= a && a < fill && a < mark && mark <= fill,
         Noted::Two(a, b) => {
-            (start <= a) & ((a < fill) & ((a < b) & ((b < fill) & ((b < mark) & (mark <= fill)))))
+            start <= a && a < fill && a < b && b < fill && b < mark && mark <= fill
         }
         Noted::Three(a, b, c) => {
-            (start <= a)
-                & ((a < fill)
-                    & ((a < b)
-                        & ((b < fill) & ((b < c) & ((c < fill) & ((c < mark) & (mark <= fill)))))))
+            start <= a
+                && a < fill
+                && a < b
+                && b < fill
+                && b < c
+                && c < fill
+                && c < mark
+                && mark <= fill
         }
         Noted::Four(a, b, c, d) => {
-            (start <= a)
-                & ((a < fill)
-                    & ((a < b)
-                        & ((b < fill)
-                            & ((b < c)
-                                & ((c < fill)
-                                    & ((c < d) & ((d < fill) & ((d < mark) & (mark <= fill)))))))))
+            start <= a
+                && a < fill
+                && a < b
+                && b < fill
+                && b < c
+                && c < fill
+                && c < d
+                && d < fill
+                && d < mark
+                && mark <= fill
         }
     }
 }
@@ -224,18 +213,18 @@ fn notes_from(noted: Noted, start: usize) -> Noted
 {
     match noted {
         Noted::Zero => Noted::Zero,
-        Noted::One(a) => Noted::One(record::less(a, start)),
-        Noted::Two(a, b) => Noted::Two(record::less(a, start), record::less(b, start)),
+        Noted::One(a) => Noted::One(a.saturating_sub(start)),
+        Noted::Two(a, b) => Noted::Two(a.saturating_sub(start), b.saturating_sub(start)),
         Noted::Three(a, b, c) => Noted::Three(
-            record::less(a, start),
-            record::less(b, start),
-            record::less(c, start),
+            a.saturating_sub(start),
+            b.saturating_sub(start),
+            c.saturating_sub(start),
         ),
         Noted::Four(a, b, c, d) => Noted::Four(
-            record::less(a, start),
-            record::less(b, start),
-            record::less(c, start),
-            record::less(d, start),
+            a.saturating_sub(start),
+            b.saturating_sub(start),
+            c.saturating_sub(start),
+            d.saturating_sub(start),
         ),
     }
 }
@@ -246,137 +235,116 @@ impl Reader {
         requires { self.fill + t ≤ self.window }
         ensures { result ≡ filled self t }
     {
-        let mut s = self;
-        s.fill = s.fill + t;
-        s
+        Reader {
+            fill: self.fill + t,
+            ..self
+        }
     }
 
     // The same with the kept bytes at the window's front.
     fn to_front(self) -> Reader
         ensures { result ≡ front_of self }
     {
-        let noted = self.noted;
         let start = self.start;
-        let line = self.line;
-        let byte = self.byte;
-        let notes = notes_from(noted, start);
         Reader {
-            window: self.window,
             start: 0,
-            fill: record::less(self.fill, start),
-            noted: notes,
-            mark: record::less(self.mark, start),
-            line,
-            byte,
-            ended: self.ended,
-            waiting: self.waiting,
-            closed: self.closed,
+            fill: self.fill.saturating_sub(start),
+            noted: notes_from(self.noted, start),
+            mark: self.mark.saturating_sub(start),
+            ..self
         }
     }
 
-    // What feed answers where it does not refuse with 2, 4 or 3: n is the chunk's length.
-    fn taking(self, n: usize) -> Fed
+    // The state may be fed, or told the end: refused with 2, 4 or 3.
+    fn ready(self, n: usize) -> Result<(), Refusal>
+        ensures { result ≡ ready_of self n }
+    {
+        if !self.owns(n) {
+            return Err(Refusal::Foreign);
+        }
+        if self.ended {
+            return Err(Refusal::EndNoted);
+        }
+        if !self.waiting {
+            return Err(Refusal::NotWaiting);
+        }
+        Ok(())
+    }
+
+    // What feed answers for a state that is ready: n is the chunk's length.
+    fn taking(self, n: usize) -> Outcome<usize>
         requires { Own self self.window }
         ensures { result ≡ taking_of self n }
     {
-        let start = self.start;
         let fill = self.fill;
-        let held = fill - start;
+        let held = fill - self.start;
         let w = self.window;
-        let t = lines::least(n, w - held);
+        let t = n.min(w - held);
         let byte = self.byte;
         if Reader::LIMIT - byte.0 - (held as u64) < (t as u64) {
-            return Fed {
+            return Outcome {
                 state: self,
-                answer: Taken::Refused(5),
+                answer: Err(Refusal::PastLimit),
             };
         }
         if w - fill < n {
             let m = self.to_front();
-            let f = m.with_fill(t);
-            Fed {
-                state: f,
-                answer: Taken::Took(t),
+            Outcome {
+                state: m.with_fill(t),
+                answer: Ok(t),
             }
         } else {
-            let f = self.with_fill(t);
-            Fed {
-                state: f,
-                answer: Taken::Took(t),
+            Outcome {
+                state: self.with_fill(t),
+                answer: Ok(t),
             }
         }
     }
 
     // What feed answers, of the window's and the chunk's lengths alone.
-    fn plan(self, w: usize, n: usize) -> Fed
+    fn plan(self, w: usize, n: usize) -> Outcome<usize>
         ensures { result ≡ feed_of self w n }
     {
-        if !self.owns(w) {
-            return Fed {
+        match self.ready(w) {
+            Ok(()) => self.taking(n),
+            Err(refusal) => Outcome {
                 state: self,
-                answer: Taken::Refused(2),
-            };
+                answer: Err(refusal),
+            },
         }
-        if self.ended {
-            return Fed {
-                state: self,
-                answer: Taken::Refused(4),
-            };
-        }
-        if !self.waiting {
-            return Fed {
-                state: self,
-                answer: Taken::Refused(3),
-            };
-        }
-        self.taking(n)
     }
 
     // Takes as much of the chunk as there is room for beside the kept bytes, and stores it behind the held ones.
-    pub fn feed(self, window: &mut [u8], chunk: &[u8]) -> Fed
+    pub fn feed(self, window: &mut [u8], chunk: &[u8]) -> Outcome<usize>
         ensures answer { result ≡ feed_of self (length window.old) (length chunk.now) }
         ensures bytes { window.new ≡ fed_window self window.old chunk.now }
     {
-        let start = self.start;
-        let fill = self.fill;
         let f = self.plan(window.len(), chunk.len());
-        let a = f.answer;
-        match a {
-            Taken::Took(_) => {
-                land(window, chunk, start, fill);
+        match f.answer {
+            Ok(_) => {
+                land(window, chunk, self.start, self.fill);
                 f
             }
-            Taken::Refused(_) => f,
+            Err(_) => f,
         }
     }
 
     // Notes the end of the input.
-    pub fn finish(self, window: &[u8]) -> Finished
+    pub fn finish(self, window: &[u8]) -> Outcome<()>
         ensures { result ≡ finish_of self (length window.now) }
     {
-        if !self.owns(window.len()) {
-            return Finished {
+        match self.ready(window.len()) {
+            Ok(()) => Outcome {
+                state: Reader {
+                    ended: true,
+                    ..self
+                },
+                answer: Ok(()),
+            },
+            Err(refusal) => Outcome {
                 state: self,
-                answer: Ending::Refused(2),
-            };
-        }
-        if self.ended {
-            return Finished {
-                state: self,
-                answer: Ending::Refused(4),
-            };
-        }
-        if !self.waiting {
-            return Finished {
-                state: self,
-                answer: Ending::Refused(3),
-            };
-        }
-        let mut s = self;
-        s.ended = true;
-        Finished {
-            state: s,
-            answer: Ending::Noted,
+                answer: Err(refusal),
+            },
         }
     }
 }
@@ -402,58 +370,6 @@ fn land(window: &mut [u8], chunk: &[u8], start: usize, fill: usize)
     }
 }
 
-// How many line ends are noted.
-fn count(noted: Noted) -> u64
-    ensures { result ≡ length (listed noted) }
-{
-    match noted {
-        Noted::Zero => 0,
-        Noted::One(_) => 1,
-        Noted::Two(_, _) => 2,
-        Noted::Three(_, _, _) => 3,
-        Noted::Four(_, _, _, _) => 4,
-    }
-}
-
-// The five numbers of a record with three or four line ends noted: without the fourth it ends where the bytes do.
-fn numbers(noted: Noted, start: usize, end: usize) -> Record
-    requires { Notes start end end (listed noted) }
-    ensures { result ≡ numbers_of noted start end }
-{
-    match noted {
-        Noted::Four(a, b, c, d) => Record {
-            start,
-            seq: a + 1,
-            sep: b + 1,
-            qual: c + 1,
-            end: d,
-        },
-        Noted::Three(a, b, c) => Record {
-            start,
-            seq: a + 1,
-            sep: b + 1,
-            qual: c + 1,
-            end,
-        },
-        Noted::Zero => nothing(),
-        Noted::One(_) => nothing(),
-        Noted::Two(_, _) => nothing(),
-    }
-}
-
-// Five numbers that are no record's.
-fn nothing() -> Record
-    ensures { result ≡ nothing_of }
-{
-    Record {
-        start: 0,
-        seq: 0,
-        sep: 0,
-        qual: 0,
-        end: 0,
-    }
-}
-
 // The bytes from `from` up to `to` are at most a carriage return.
 fn is_blank(s: &[u8], from: usize, to: usize) -> bool
     requires { (from ≤ to) × (to ≤ length s.now) }
@@ -463,123 +379,170 @@ fn is_blank(s: &[u8], from: usize, to: usize) -> bool
     t.len() == 0
 }
 
-// Every piece of a tail with at most two line ends is empty after `trim_cr`.
-fn blank(held: &[u8], start: usize, noted: Noted) -> bool
-    requires { (length (listed noted) < 3) × Notes start (length held.now) (length held.now) (listed noted) }
-    ensures { result ≡ all_blank (pieces held.now start (listed noted)) }
-{
-    let end = held.len();
-    match noted {
-        Noted::Zero => is_blank(held, start, end),
-        Noted::One(a) => is_blank(held, start, a) & is_blank(held, a + 1, end),
-        Noted::Two(a, b) => {
-            is_blank(held, start, a) & (is_blank(held, a + 1, b) & is_blank(held, b + 1, end))
-        }
-        Noted::Three(_, _, _) => false,
-        Noted::Four(_, _, _, _) => false,
-    }
-}
+// Five numbers that are no record's.
+const NOTHING: Record = Record {
+    start: 0,
+    seq: 0,
+    sep: 0,
+    qual: 0,
+    end: 0,
+};
 
-// The id of an unexpected end: only if there was a line end.
-fn end_id(held: &[u8], start: usize, noted: Noted) -> Range
-    requires { Notes start (length held.now) (length held.now) (listed noted) }
-    ensures { result ≡ range_of (end_id held.now start (listed noted)) }
-{
-    match noted {
-        Noted::Zero => Range::Absent,
-        Noted::One(a) => record::error_id(held, start, a + 1),
-        Noted::Two(a, _) => record::error_id(held, start, a + 1),
-        Noted::Three(a, _, _) => record::error_id(held, start, a + 1),
-        Noted::Four(a, _, _, _) => record::error_id(held, start, a + 1),
-    }
-}
-
-// The answer where the input ends with at most two line ends of a record noted.
-fn tail(held: &[u8], start: usize, line: Line, noted: Noted) -> Decided
-    requires { (length (listed noted) < 3) × Notes start (length held.now) (length held.now) (listed noted) × (line.0 ≤ 1125899906842624) }
-    ensures { result ≡ tail_of held.now start line.0 noted }
-{
-    if blank(held, start, noted) {
-        return Decided {
-            answer: Answer::End,
-            waiting: false,
-            closed: true,
-        };
-    }
-    let n = count(noted);
-    let id = end_id(held, start, noted);
-    Decided {
-        answer: Answer::UnexpectedEnd(Line(line.0 + n), id),
-        waiting: false,
-        closed: true,
-    }
-}
-
-// The answer for a record whose numbers are known; the last one has no final LF, and closes.
-fn judged(held: &[u8], r: Record, line: Line, byte: Byte, last: bool) -> Decided
-    requires { line.0 ≤ 1125899906842624 }
-    ensures { result ≡ judged_of held.now r line.0 byte last }
-{
-    let c = r.validate(held);
-    match c {
-        Check::Good => Decided {
-            answer: Answer::Record(r, byte),
-            waiting: false,
-            closed: last,
-        },
-        Check::Start(x) => Decided {
-            answer: Answer::InvalidStart(x, line),
-            waiting: false,
-            closed: true,
-        },
-        Check::Separator(x, id) => Decided {
-            answer: Answer::InvalidSeparator(x, Line(line.0 + 2), id),
-            waiting: false,
-            closed: true,
-        },
-        Check::Lengths(m, n, id) => Decided {
-            answer: Answer::UnequalLengths(m, n, line, id),
-            waiting: false,
-            closed: true,
-        },
-    }
-}
-
-// The answer once the held bytes are searched.
-#[tactic(auto, using(crate::proofs::Nexting::decided_limit, crate::proofs::Nexting::decided_more, crate::proofs::Nexting::decided_tail, crate::proofs::Nexting::decided_judged))]
-fn decide(
-    held: &[u8],
-    window: usize,
+// The held bytes, all of them searched, the record that is sought among them, and its line ends noted so far.
+#[derive(Clone, Copy)]
+struct Seen<'a> {
+    held: &'a [u8],
     start: usize,
     line: Line,
     byte: Byte,
-    ended: bool,
     noted: Noted,
-) -> Decided
-    requires { Notes start (length held.now) (length held.now) (listed noted) × (line.0 ≤ 1125899906842624) }
-    ensures { result ≡ decided_of held.now window start line.0 byte ended noted }
-{
-    let n = count(noted);
-    let few = n < 4;
-    if few & (window <= held.len() - start) {
-        return Decided {
-            answer: Answer::WindowLimit(line, byte),
+    ghost fit: { notes_fit start (length held.now) (length held.now) (listed noted) ≡ true },
+    // so low that the lines of a record's errors fit
+    ghost low: { line.0 ≤ 1125899906842624 },
+}
+
+impl<'a> Seen<'a> {
+    // The five numbers of a record with three or four line ends noted: without the fourth it ends where the bytes do.
+    #[tactic(auto, using(crate::proofs::Owning::seen_three, crate::proofs::Owning::seen_four))]
+    fn record(self) -> Record
+        ensures { result ≡ numbers_of self.entry.noted self.entry.start (length self.entry.held.now) }
+    {
+        match self.noted {
+            Noted::Four(a, b, c, end) => Record {
+                start: self.start,
+                seq: a + 1,
+                sep: b + 1,
+                qual: c + 1,
+                end,
+            },
+            Noted::Three(a, b, c) => Record {
+                start: self.start,
+                seq: a + 1,
+                sep: b + 1,
+                qual: c + 1,
+                end: self.held.len(),
+            },
+            Noted::Zero => NOTHING,
+            Noted::One(_) => NOTHING,
+            Noted::Two(_, _) => NOTHING,
+        }
+    }
+
+    // Every piece of a tail with at most two line ends is empty after `trim_cr`.
+    #[tactic(auto, using(crate::proofs::Owning::seen_none, crate::proofs::Owning::seen_one, crate::proofs::Owning::seen_two, crate::proofs::Nexting::blank_zero, crate::proofs::Nexting::blank_one, crate::proofs::Nexting::blank_two))]
+    fn is_blank(self) -> bool
+        requires { length (listed self.noted) < 3 }
+        ensures { result ≡ all_blank (pieces self.entry.held.now self.entry.start (listed self.entry.noted)) }
+    {
+        let held = self.held;
+        let start = self.start;
+        let end = held.len();
+        match self.noted {
+            Noted::Zero => is_blank(held, start, end),
+            Noted::One(a) => is_blank(held, start, a) & is_blank(held, a + 1, end),
+            Noted::Two(a, b) => {
+                is_blank(held, start, a) & (is_blank(held, a + 1, b) & is_blank(held, b + 1, end))
+            }
+            Noted::Three(_, _, _) => false,
+            Noted::Four(_, _, _, _) => false,
+        }
+    }
+
+    // The id of an unexpected end: only if there was a line end.
+    #[tactic(auto, using(crate::proofs::Owning::seen_one, crate::proofs::Owning::seen_two, crate::proofs::Owning::seen_three, crate::proofs::Owning::seen_four))]
+    fn id(self) -> Option<Span>
+        ensures { result ≡ span_of (end_id self.entry.held.now self.entry.start (listed self.entry.noted)) }
+    {
+        match self.noted {
+            Noted::Zero => None,
+            Noted::One(a) => record::error_id(self.held, self.start, a + 1),
+            Noted::Two(a, _) => record::error_id(self.held, self.start, a + 1),
+            Noted::Three(a, _, _) => record::error_id(self.held, self.start, a + 1),
+            Noted::Four(a, _, _, _) => record::error_id(self.held, self.start, a + 1),
+        }
+    }
+
+    // The answer where the input ends with at most two line ends of a record noted.
+    #[tactic(auto, using(crate::proofs::Nexting::tail_blank, crate::proofs::Nexting::tail_cut))]
+    fn tail(self) -> Decided
+        requires { length (listed self.noted) < 3 }
+        ensures { result ≡ tail_of self.entry.held.now self.entry.start self.entry.line.0 self.entry.noted }
+    {
+        if self.is_blank() {
+            return Decided {
+                answer: Answer::End,
+                waiting: false,
+                closed: true,
+            };
+        }
+        let line = self.line;
+        let n = self.noted.count();
+        let id = self.id();
+        Decided {
+            answer: Answer::UnexpectedEnd(Line(line.0 + n as u64), id),
             waiting: false,
             closed: true,
-        };
+        }
     }
-    if few & !ended {
-        return Decided {
-            answer: Answer::More,
-            waiting: true,
-            closed: false,
-        };
+
+    // The answer for a record that is not valid: an invalid separator is told at its own line.
+    fn invalid(self, invalid: Invalid) -> Answer
+        ensures { result ≡ invalid_of self.entry.line.0 invalid }
+    {
+        let line = self.line;
+        match invalid {
+            Invalid::Start(x) => Answer::InvalidStart(x, line),
+            Invalid::Separator(x, id) => Answer::InvalidSeparator(x, Line(line.0 + 2), id),
+            Invalid::Lengths(m, n, id) => Answer::UnequalLengths(m, n, line, id),
+        }
     }
-    if n < 3 {
-        return tail(held, start, line, noted);
+
+    // The answer for a record whose numbers are known; the last one has no final LF, and closes.
+    #[tactic(auto, unfolding(crate::specs::Inside::judged_of))]
+    fn judged(self, r: Record, last: bool) -> Decided
+        ensures { result ≡ judged_of self.entry.held.now r self.entry.line.0 self.entry.byte last }
+    {
+        match r.validate(self.held) {
+            Ok(()) => Decided {
+                answer: Answer::Record(r, self.byte),
+                waiting: false,
+                closed: last,
+            },
+            Err(invalid) => Decided {
+                answer: self.invalid(invalid),
+                waiting: false,
+                closed: true,
+            },
+        }
     }
-    let r = numbers(noted, start, held.len());
-    judged(held, r, line, byte, few)
+
+    // The answer: `window` is the window's length, `ended` whether the end is noted.
+    #[tactic(auto, using(crate::proofs::Nexting::decided_limit, crate::proofs::Nexting::decided_more, crate::proofs::Nexting::decided_tail, crate::proofs::Nexting::decided_judged, crate::proofs::Owning::seen_start))]
+    fn decide(self, window: usize, ended: bool) -> Decided
+        ensures { result ≡ decided_of self.entry.held.now window self.entry.start self.entry.line.0 self.entry.byte ended self.entry.noted }
+    {
+        let held = self.held;
+        let n = self.noted.count();
+        let few = n < 4;
+        if few & (window <= held.len() - self.start) {
+            return Decided {
+                answer: Answer::WindowLimit(self.line, self.byte),
+                waiting: false,
+                closed: true,
+            };
+        }
+        if few & !ended {
+            return Decided {
+                answer: Answer::More,
+                waiting: true,
+                closed: false,
+            };
+        }
+        if n < 3 {
+            return self.tail();
+        }
+        self.judged(self.record(), few)
+    }
 }
 
 impl Reader {
@@ -596,16 +559,12 @@ impl Reader {
                 let byte = self.byte;
                 let next = d + 1;
                 Reader {
-                    window: self.window,
                     start: next,
-                    fill: self.fill,
                     noted: Noted::Zero,
                     mark: next,
                     line: Line(line.0 + 4),
                     byte: Byte(byte.0 + ((next - start) as u64)),
-                    ended: self.ended,
-                    waiting: self.waiting,
-                    closed: self.closed,
+                    ..self
                 }
             }
             Noted::Zero => self,
@@ -616,53 +575,49 @@ impl Reader {
     }
 
     // Searches on, and answers.
-    fn seeking(self, window: &[u8]) -> Next
+    fn seeking(self, window: &[u8]) -> Outcome<Answer>
         requires { Seeks self (length window.now) }
         ensures { result ≡ seeking_of self window.now }
     {
-        let fill = self.fill;
-        let start = self.start;
-        let noted = self.noted;
-        let line = self.line;
-        let byte = self.byte;
-        let held = &window[..fill];
-        let f = record::search(held, noted, self.mark);
-        let notes = f.noted;
-        let d = decide(held, self.window, start, line, byte, self.ended, notes);
-        let answer = d.answer;
-        Next {
+        let held = &window[..self.fill];
+        let f = record::search(held, self.noted, self.mark);
+        let seen = Seen {
+            held,
+            start: self.start,
+            line: self.line,
+            byte: self.byte,
+            noted: f.noted,
+        };
+        let d = seen.decide(self.window, self.ended);
+        Outcome {
             state: Reader {
-                window: self.window,
-                start,
-                fill,
-                noted: notes,
+                noted: f.noted,
                 mark: f.mark,
-                line,
-                byte,
-                ended: self.ended,
                 waiting: d.waiting,
                 closed: d.closed,
+                ..self
             },
-            answer,
+            answer: Ok(d.answer),
         }
     }
 
     // The next answer: a record, more input wanted, an error, window limit or End.
-    pub fn next(self, window: &[u8]) -> Next
+    pub fn next(self, window: &[u8]) -> Outcome<Answer>
         ensures { result ≡ next_of self window.now }
     {
         if !self.owns(window.len()) {
-            return Next {
+            return Outcome {
                 state: self,
-                answer: Answer::Refused(2),
+                answer: Err(Refusal::Foreign),
             };
         }
         if self.closed {
-            let mut s = self;
-            s.waiting = false;
-            return Next {
-                state: s,
-                answer: Answer::End,
+            return Outcome {
+                state: Reader {
+                    waiting: false,
+                    ..self
+                },
+                answer: Ok(Answer::End),
             };
         }
         let s = self.onward();
@@ -670,33 +625,33 @@ impl Reader {
     }
 
     // To another line and byte, among the held bytes or outside them; a closed reading opens again.
-    pub fn seek(self, window: &[u8], to: Position) -> Moved
+    pub fn seek(self, window: &[u8], to: Position) -> Outcome<Place>
         ensures { result ≡ seek_of self (length window.now) to }
     {
         if !self.owns(window.len()) {
-            return Moved {
+            return Outcome {
                 state: self,
-                answer: Place::Refused(2),
+                answer: Err(Refusal::Foreign),
             };
         }
         let line = to.line;
         let byte = to.byte;
         if Reader::LIMIT < line.0 {
-            return Moved {
+            return Outcome {
                 state: self,
-                answer: Place::Refused(5),
+                answer: Err(Refusal::PastLimit),
             };
         }
         if Reader::LIMIT < byte.0 {
-            return Moved {
+            return Outcome {
                 state: self,
-                answer: Place::Refused(5),
+                answer: Err(Refusal::PastLimit),
             };
         }
         self.moved(line, byte)
     }
 
-    fn moved(self, line: Line, byte: Byte) -> Moved
+    fn moved(self, line: Line, byte: Byte) -> Outcome<Place>
         requires { Own self self.window }
         ensures { result ≡ moved_of self line byte }
     {
@@ -710,28 +665,26 @@ impl Reader {
             return self.outside(line, byte);
         }
         let start = place as usize;
-        Moved {
+        Outcome {
             state: Reader {
-                window: self.window,
                 start,
-                fill: self.fill,
                 noted: Noted::Zero,
                 mark: start,
                 line,
                 byte,
-                ended: self.ended,
                 waiting: false,
                 closed: false,
+                ..self
             },
-            answer: Place::Inside,
+            answer: Ok(Place::Inside),
         }
     }
 
     // Nothing is held: the input is to be fed from there on.
-    fn outside(self, line: Line, byte: Byte) -> Moved
+    fn outside(self, line: Line, byte: Byte) -> Outcome<Place>
         ensures { result ≡ moved_by self (position_at line byte) false }
     {
-        Moved {
+        Outcome {
             state: Reader {
                 window: self.window,
                 start: 0,
@@ -744,7 +697,7 @@ impl Reader {
                 waiting: true,
                 closed: false,
             },
-            answer: Place::FeedFrom(byte),
+            answer: Ok(Place::FeedFrom(byte)),
         }
     }
 }

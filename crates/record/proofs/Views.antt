@@ -5,31 +5,17 @@ use mathlib.Core.Bool.{Bool, true, false, cond, ◌&&◌}
 use mathlib.Core.Option.{none, some}
 use mathlib.Core.List.{List, []}
 use Prim.Native.Nat.{ℕ, ◌+◌, ◌-◌, ◌<◌, ◌≤◌}
-use native.Mathlib.Numerals.{add-one}
 use native.Mathlib.Nat.{zero-add}
 use native.Mathlib.Omega.{arith}
-use lib.Dec.{leb, ltb}
+use lib.Dec.{ltb}
 use lib.ListN.{length, take, drop, length-drop}
 use lib.Seq.{take_all}
-use borrow.Author.Tests.{le-leb, lt-leb, leb-true, leb-false, lt-ltb, le-ltb}
+use borrow.Author.Tests.{leb-true, lt-ltb}
 use denote.Ref.{Bor}
 use Rattle.reading.specs.Bytes.{id_length}
 use Rattle.reading.specs.Answer.{Five}
 use Rattle.reading.specs.Reading.{id_in, desc_in}
 use Rattle.record.specs.Views.{view_test, View, view, nowhere, view_by, desc_by, present, Shows}
-
--- a gap of k or more, with no sum that could wrap
-gap : (p q k : ℕ) → 0 < k → leb k (q - p) ≡ leb (p + k) q
-gap p q k h = by (leb (p + k) q) refl where
-  by : (t : Bool) → leb (p + k) q ≡ t → leb k (q - p) ≡ leb (p + k) q
-  by true e = rw e (let z = leb-true (p + k) q e in le-leb k (q - p) (omega arith))
-  by false e = rw e (let z = leb-false (p + k) q e in lt-leb k (q - p) (omega arith))
-
--- the view test by differences, with no sum that could wrap
-pub test_is : (r : Five) (n m k : ℕ) → m ≡ r.seq - r.start → k ≡ r.qual - r.sep
-    → (leb 2 m && ltb r.seq r.sep && leb 2 k && leb r.qual r.end && leb r.end n) ≡ view_test r n
-unfolding view_test
-test_is r n m k e f = rw (e, f, gap r.start r.seq 2 (omega arith), gap r.sep r.qual 2 (omega arith), add-one)
 
 -- the five numbers are those of a record within n bytes
 pub record Fits (r : Five) (n : ℕ) : Type 0 where
@@ -85,12 +71,6 @@ module _ (w h v : Bor (List ℕ)) (x : View) (s : Shows w x h) (n : ℕ) (e : n 
         bytes = b ∙ take_all (length h.now - (n + 1)) (drop (n + 1) h.now) (simp length-drop (omega arith)) ∙ ap (λ (i : ℕ). drop (i + 1) h.now) e;
         place = p ∙ ap (λ z. (z.0, (n + 1) + z.1)) s.place ∙ ap (λ (i : ℕ). (w.ref_ptr.0, i)) a;
       })
-
-  -- without a space there is none
-  pub desc_hidden : length h.now ≤ n → v.now ≡ [] → v.ref_ptr ≡ w.ref_ptr → Shows w (desc_by (x.from + (id_length x.bytes + 1)) (desc_in x.bytes)) v
-  desc_hidden k b p =
-      let q : ltb (id_length h.now) (length h.now) ≡ false = le-ltb (id_length h.now) (length h.now) (omega arith) in
-      rw (← s.bytes, q) (front b p)
 
   -- the description is there where the id is not the whole head
   pub desc_told : ltb n (length h.now) ≡ present (desc_in x.bytes)

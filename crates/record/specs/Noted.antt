@@ -14,6 +14,14 @@ listed (Two a b) = a ∷ b ∷ []
 listed (Three a b c) = a ∷ b ∷ c ∷ []
 listed (Four a b c d) = a ∷ b ∷ c ∷ d ∷ []
 
+-- the notes with one line end more; there is no fifth
+abbrev pub with_end : Noted → ℕ → Noted
+with_end Zero e = One e
+with_end (One a) e = Two a e
+with_end (Two a b) e = Three a b e
+with_end (Three a b c) e = Four a b c e
+with_end (Four a b c d) e = Four a b c d
+
 abbrev pub sought : Noted → ℕ → Sought
 sought e m = record { noted = e; mark = m }
 

@@ -2,18 +2,16 @@
 // Each function takes any bytes and any numbers.
 #![tactic(auto)]
 
-ghost use Rattle.std.specs.Prelude.{◌≡◌, ◌+◌, ◌-◌, ◌≤◌, ◌∷◌, length};
+ghost use Rattle.std.specs.Prelude.{◌≡◌, ◌+◌, ◌≤◌, length, is_some, IfSome};
 ghost use Rattle.std.proofs.Math.Seq.{slice};
-ghost use Rattle.reading.specs.Bytes.{byte_at, trim_cr, line_ends, id_length};
+ghost use Rattle.reading.specs.Bytes.{byte_at, trim_cr, id_length};
 ghost use Rattle.reading.specs.Reading.{validate, lengths_agree, error_id};
-ghost use Rattle.record.specs.Noted.{sought_of, gathered, after};
-ghost use Rattle.record.specs.Check.{five_of, range_of, check_of};
+ghost use Rattle.record.specs.Noted.{listed, with_end, sought_of};
+ghost use Rattle.record.specs.Check.{five_of, span_of, check_of};
 ghost use Rattle.record.specs.Views.{view_test, Shows, head_view, seq_view, qual_view, id_view, desc_view, has_desc};
 
-use lines::Found;
-
 // The line ends noted so far, of the record that is sought or was answered: one variant for each count.
-#[derive(Clone, Copy)]
+#[derive(Clone, Copy, Debug, PartialEq, Eq)]
 pub enum Noted {
     Zero,
     One(usize),
@@ -23,30 +21,29 @@ pub enum Noted {
 }
 
 // The notes after a search, and the place up to which bytes are searched.
-#[derive(Clone, Copy)]
+#[derive(Clone, Copy, Debug, PartialEq, Eq)]
 pub struct Sought {
     pub noted: Noted,
     pub mark: usize,
 }
 
-// A range of bytes of the window, or none.
-#[derive(Clone, Copy)]
-pub enum Range {
-    Absent,
-    Bytes(usize, usize),
+// A range of bytes of the window.
+#[derive(Clone, Copy, Debug, PartialEq, Eq)]
+pub struct Span {
+    pub from: usize,
+    pub to: usize,
 }
 
-// What validation says: the values of errors 8, 9 and 10 but for the line.
-#[derive(Clone, Copy)]
-pub enum Check {
-    Good,
+// What validation finds wrong: the values of errors 8, 9 and 10 but for the line.
+#[derive(Clone, Copy, Debug, PartialEq, Eq)]
+pub enum Invalid {
     Start(u8),
-    Separator(u8, Range),
-    Lengths(usize, usize, Range),
+    Separator(u8, Option<Span>),
+    Lengths(usize, usize, Option<Span>),
 }
 
 // The five numbers of a record: its start, the places after its first, second and third LF, and its end.
-#[derive(Clone, Copy)]
+#[derive(Clone, Copy, Debug, PartialEq, Eq)]
 pub struct Record {
     pub start: usize,
     pub seq: usize,
@@ -55,82 +52,50 @@ pub struct Record {
     pub end: usize,
 }
 
+impl Noted {
+    // How many line ends are noted.
+    pub fn count(self) -> usize
+        ensures { result ≡ length (listed self) }
+    {
+        match self {
+            Noted::Zero => 0,
+            Noted::One(_) => 1,
+            Noted::Two(_, _) => 2,
+            Noted::Three(_, _, _) => 3,
+            Noted::Four(_, _, _, _) => 4,
+        }
+    }
+
+    // The notes with one line end more; there is no fifth.
+    pub fn with(self, end: usize) -> Noted
+        ensures { result ≡ with_end self end }
+    {
+        match self {
+            Noted::Zero => Noted::One(end),
+            Noted::One(a) => Noted::Two(a, end),
+            Noted::Two(a, b) => Noted::Three(a, b, end),
+            Noted::Three(a, b, c) => Noted::Four(a, b, c, end),
+            Noted::Four(_, _, _, _) => self,
+        }
+    }
+}
+
 // Searches on for the line ends that are missing of four, from `mark` to the end of the held bytes.
+#[tactic(auto, using(crate::proofs::Laws::search_inside, crate::proofs::Laws::search_on, crate::proofs::Laws::search_past, crate::proofs::Laws::search_full, crate::proofs::Laws::with_more))]
 pub fn search(held: &[u8], noted: Noted, mark: usize) -> Sought
     ensures { result ≡ sought_of held.now noted mark }
 {
-    match noted {
-        Noted::Zero => from_head(held, mark),
-        Noted::One(a) => from_seq(held, a, mark),
-        Noted::Two(a, b) => from_sep(held, a, b, mark),
-        Noted::Three(a, b, c) => from_qual(held, a, b, c, mark),
-        Noted::Four(a, b, c, d) => Sought {
-            noted: Noted::Four(a, b, c, d),
-            mark,
-        },
+    let mut noted = noted;
+    let mut mark = mark;
+    while noted.count() < 4 {
+        let Some(end) = lines::find_line(held, mark) else {
+            let mark = held.len();
+            return Sought { noted, mark };
+        };
+        noted = noted.with(end);
+        mark = end + 1;
     }
-}
-
-fn from_head(held: &[u8], mark: usize) -> Sought
-    ensures { result ≡ gathered (length held.now) (after held.now mark) }
-{
-    let f = lines::find_line(held, mark);
-    match f {
-        Found::At(a) => from_seq(held, a, a + 1),
-        Found::Nothing => Sought {
-            noted: Noted::Zero,
-            mark: held.len(),
-        },
-    }
-}
-
-fn from_seq(held: &[u8], a: usize, mark: usize) -> Sought
-    ensures { result ≡ gathered (length held.now) (a ∷ after held.now mark) }
-{
-    let f = lines::find_line(held, mark);
-    match f {
-        Found::At(b) => from_sep(held, a, b, b + 1),
-        Found::Nothing => Sought {
-            noted: Noted::One(a),
-            mark: held.len(),
-        },
-    }
-}
-
-fn from_sep(held: &[u8], a: usize, b: usize, mark: usize) -> Sought
-    ensures { result ≡ gathered (length held.now) (a ∷ b ∷ after held.now mark) }
-{
-    let f = lines::find_line(held, mark);
-    match f {
-        Found::At(c) => from_qual(held, a, b, c, c + 1),
-        Found::Nothing => Sought {
-            noted: Noted::Two(a, b),
-            mark: held.len(),
-        },
-    }
-}
-
-fn from_qual(held: &[u8], a: usize, b: usize, c: usize, mark: usize) -> Sought
-    ensures { result ≡ gathered (length held.now) (a ∷ b ∷ c ∷ after held.now mark) }
-{
-    let f = lines::find_line(held, mark);
-    match f {
-        Found::At(d) => Sought {
-            noted: Noted::Four(a, b, c, d),
-            mark: d + 1,
-        },
-        Found::Nothing => Sought {
-            noted: Noted::Three(a, b, c),
-            mark: held.len(),
-        },
-    }
-}
-
-// The difference, or 0.
-pub fn less(a: usize, b: usize) -> usize
-    ensures { result ≡ a - b }
-{
-    if b <= a { a - b } else { 0 }
+    Sought { noted, mark }
 }
 
 // The byte at a place, or 0 past the end.
@@ -145,7 +110,7 @@ fn line(s: &[u8], from: usize, to: usize) -> &[u8]
     ensures bytes { result.now ≡ trim_cr (slice from to s.now) }
     ensures place { from ≤ to → to ≤ length s.now → result.ref_ptr ≡ (s.entry.ref_ptr.0, from + s.entry.ref_ptr.1) }
 {
-    let e = lines::least(to, s.len());
+    let e = to.min(s.len());
     if e < from {
         return &s[..0];
     }
@@ -156,75 +121,70 @@ fn line(s: &[u8], from: usize, to: usize) -> &[u8]
 pub fn id_length(head: &[u8]) -> usize
     ensures { result ≡ id_length head.now }
 {
-    let mut i = 0;
-    while i < head.len() {
-        if head[i] == 32 {
-            return i;
-        }
-        i += 1;
+    match lines::find_byte(head, b' ') {
+        Some(i) => i,
+        None => head.len(),
     }
-    i
 }
 
 // The id of an error: present if the first line is longer than its LF.
-pub fn error_id(window: &[u8], start: usize, seq: usize) -> Range
-    ensures { result ≡ range_of (error_id window.now start seq) }
+pub fn error_id(window: &[u8], start: usize, seq: usize) -> Option<Span>
+    ensures { result ≡ span_of (error_id window.now start seq) }
 {
-    if less(seq, start) <= 1 {
-        return Range::Absent;
+    if seq.saturating_sub(start) <= 1 {
+        return None;
     }
     let from = start + 1;
-    let h = line(window, from, seq - 1);
-    let n = id_length(h);
-    Range::Bytes(from, from + n)
+    let head = line(window, from, seq - 1);
+    let to = from + id_length(head);
+    Some(Span { from, to })
 }
 
 impl Record {
     // The raw lengths agree, each counted with its line end.
+    #[tactic(auto, unfolding(reading::specs::Reading::lengths_agree))]
     fn lengths_agree(self, window: &[u8]) -> bool
         ensures { result ≡ lengths_agree window.now (five_of self) }
     {
-        let m = less(self.sep, self.seq);
-        let n = less(self.end, self.qual);
-        if m == 0 {
-            return false;
-        }
-        m - 1 == n
+        let m = self.sep.saturating_sub(self.seq);
+        let n = self.end.saturating_sub(self.qual);
+        0 < m && m - 1 == n
     }
 
     // The test of a record, in document 01's order.
     #[tactic(auto, using(crate::proofs::Laws::check_start, crate::proofs::Laws::check_plus, crate::proofs::Laws::check_good, crate::proofs::Laws::check_lengths))]
-    pub fn validate(self, window: &[u8]) -> Check
+    pub fn validate(self, window: &[u8]) -> Result<(), Invalid>
         ensures { result ≡ check_of (validate window.now (five_of self)) }
     {
         let start = self.start;
         let seq = self.seq;
         let sep = self.sep;
         let first = byte_at(window, start);
-        if first != 64 {
-            return Check::Start(first);
+        if first != b'@' {
+            return Err(Invalid::Start(first));
         }
         let plus = byte_at(window, sep);
-        if plus != 43 {
-            return Check::Separator(plus, error_id(window, start, seq));
+        if plus != b'+' {
+            return Err(Invalid::Separator(plus, error_id(window, start, seq)));
         }
         if self.lengths_agree(window) {
-            return Check::Good;
+            return Ok(());
         }
-        let s = line(window, seq, less(sep, 1));
+        let s = line(window, seq, sep.saturating_sub(1));
         let q = line(window, self.qual, self.end);
-        Check::Lengths(s.len(), q.len(), error_id(window, start, seq))
+        Err(Invalid::Lengths(s.len(), q.len(), error_id(window, start, seq)))
     }
 
     // The view test: the five numbers are those of a record within n bytes.
+    #[tactic(auto, unfolding(crate::specs::Views::view_test))]
     pub fn fits(self, n: usize) -> bool
         ensures { result ≡ view_test (five_of self) n }
     {
-        (2 <= less(self.seq, self.start))
-            & (self.seq < self.sep)
-            & (2 <= less(self.qual, self.sep))
-            & (self.qual <= self.end)
-            & (self.end <= n)
+        2 <= self.seq.saturating_sub(self.start)
+            && self.seq < self.sep
+            && 2 <= self.qual.saturating_sub(self.sep)
+            && self.qual <= self.end
+            && self.end <= n
     }
 
     // The head line without `@`.
@@ -234,9 +194,7 @@ impl Record {
         if !self.fits(window.len()) {
             return &window[..0];
         }
-        let from = self.start + 1;
-        let to = self.seq - 1;
-        line(window, from, to)
+        line(window, self.start + 1, self.seq - 1)
     }
 
     // The sequence line.
@@ -246,9 +204,7 @@ impl Record {
         if !self.fits(window.len()) {
             return &window[..0];
         }
-        let from = self.seq;
-        let to = self.sep - 1;
-        line(window, from, to)
+        line(window, self.seq, self.sep - 1)
     }
 
     // The quality line.
@@ -258,9 +214,7 @@ impl Record {
         if !self.fits(window.len()) {
             return &window[..0];
         }
-        let from = self.qual;
-        let to = self.end;
-        line(window, from, to)
+        line(window, self.qual, self.end)
     }
 
     // The head up to its first space.
@@ -272,25 +226,18 @@ impl Record {
         &h[..n]
     }
 
-    // The head has a description, though it may be empty.
-    pub fn has_desc(self, window: &[u8]) -> bool
-        ensures { result ≡ has_desc window.now (five_of self) }
-    {
-        let h = self.head(window);
-        id_length(h) < h.len()
-    }
-
-    // What follows the first space of the head; where there is none, the empty part at the window's front.
-    pub fn desc_bytes<'a>(self, window: &'a [u8]) -> &'a [u8]
-        ensures { Shows window.entry (desc_view window.now (five_of self)) result }
+    // What follows the first space of the head, though it may be empty; without a space there is no description.
+    pub fn desc_bytes<'a>(self, window: &'a [u8]) -> Option<&'a [u8]>
+        ensures given { is_some result ≡ has_desc window.now (five_of self) }
+        ensures shown { IfSome result (Shows window.entry (desc_view window.now (five_of self))) }
     {
         let h = self.head(window);
         let n = id_length(h);
         if n < h.len() {
             let m = n + 1;
-            &h[m..]
+            Some(&h[m..])
         } else {
-            &window[..0]
+            None
         }
     }
 }

@@ -1,223 +1,153 @@
 // Drives the reader over a row's input, and tells each answer that is no request.
-ghost use Rattle.std.specs.Prelude.{◌≤◌};
-
-use crate::rows::Row;
+use crate::rows::{Kind, Row};
 use crate::telling;
-use reader::{Answer, Byte, Line, Opened, Position, Reader};
+use reader::{Answer, Byte, Position, Reader, Refusal};
 use record::Record;
 use sets::Reply;
-
-// What a run has come to.
-#[derive(Clone, Copy)]
-struct Run {
-    reader: Reader,
-    closed: bool, // the closing answer is told
-}
+use std::ops::ControlFlow;
 
 // More turns than any row takes: each brings input or tells an answer.
 const TURNS: u32 = 512;
 
-pub fn replay(rt: &impl Print, row: Row, input: &[u8]) {
-    let mut window = [0u8; 512];
-    let size = lines::least(row.window, 512);
-    through(rt, row, input, &mut window[..size]);
-}
+// The most bytes of a window.
+const LARGEST: usize = 512;
 
-fn through(rt: &impl Print, row: Row, input: &[u8], window: &mut [u8]) {
-    let Opened::Fresh(reader) = Reader::open(window.len()) else {
-        return;
-    };
-    if row.kind == b's' {
-        sets(rt, reader, row.a, input, window);
-        return;
-    }
-    let closed = answers(rt, reader, row.chunk, row.kind == b'n', input, window);
-    if row.kind == b'k' {
-        sought(rt, closed, row, input, window);
-    }
-}
-
-// A seek, once the reading is closed, and the answers from there on.
-fn sought(rt: &impl Print, reader: Reader, row: Row, input: &[u8], window: &mut [u8]) {
-    let m = reader.seek(
-        window,
-        Position {
-            line: Line(row.a as u64),
-            byte: Byte(row.b as u64),
-        },
-    );
-    let state = m.state;
-    telling::text(rt, b"seek");
-    telling::position(rt, state);
-    answers(rt, state, row.chunk, false, input, window);
-}
-
-fn answers(
-    rt: &impl Print,
+// A row's reading on its way.
+#[derive(Drop)]
+struct Run<'a, 'w, P> {
+    rt: &'a P,
+    kind: Kind,
+    chunk: usize,
+    input: &'a [u8],
+    window: &'w mut [u8],
     reader: Reader,
-    chunk: usize,
-    writers: bool,
-    input: &[u8],
-    window: &mut [u8],
-) -> Reader {
-    let mut run = Run {
-        reader,
-        closed: false,
-    };
-    for _ in 0..TURNS {
-        if run.closed {
-            return run.reader;
-        }
-        run = turn(rt, run, chunk, writers, input, window);
-    }
-    telling::text(rt, b"no closing answer\n");
-    run.reader
 }
 
-fn turn(
-    rt: &impl Print,
-    run: Run,
-    chunk: usize,
-    writers: bool,
-    input: &[u8],
-    window: &mut [u8],
-) -> Run {
-    let reader = run.reader;
-    let n = reader.next(window);
-    let answer = n.answer;
-    let state = n.state;
-    if is_request(answer) {
-        let fed = bring(state, chunk, input, window);
-        return Run {
-            reader: fed,
-            closed: run.closed,
+pub fn replay<P: Print>(rt: &P, row: Row, input: &[u8]) {
+    let mut bytes = [0u8; LARGEST];
+    let size = row.window.min(LARGEST);
+    let Ok(reader) = Reader::open(size) else {
+        return;
+    };
+    let mut run = Run {
+        rt,
+        kind: row.kind,
+        chunk: row.chunk,
+        input,
+        window: &mut bytes[..size],
+        reader,
+    };
+    match row.kind {
+        Kind::InSets(wanted) => run.sets(wanted),
+        Kind::Sought(place) => {
+            run.answers();
+            run.seek(place);
+            run.answers();
+        }
+        Kind::Written | Kind::Answered => run.answers(),
+    }
+}
+
+impl<'a, P: Print> Run<'a, '_, P> {
+    fn seek(&mut self, place: Position) {
+        self.reader = self.reader.seek(self.window, place).state;
+        telling::text(self.rt, "seek");
+        telling::position(self.rt, self.reader);
+    }
+
+    fn answers(&mut self) {
+        for _ in 0..TURNS {
+            if self.turn().is_break() {
+                return;
+            }
+        }
+        telling::text(self.rt, "no closing answer\n");
+    }
+
+    // Brings the input that is asked for, or tells an answer. Only a record leaves the reading open.
+    fn turn(&mut self) -> ControlFlow<()> {
+        let next = self.reader.next(self.window);
+        self.reader = next.state;
+        match next.answer {
+            Ok(Answer::More) => self.bring(),
+            Ok(Answer::Record(r, _)) => {
+                self.tell(next.answer);
+                if let Kind::Written = self.kind {
+                    telling::written(self.rt, r, self.window);
+                }
+            }
+            Ok(Answer::WindowLimit(_, _))
+            | Ok(Answer::InvalidStart(_, _))
+            | Ok(Answer::InvalidSeparator(_, _, _))
+            | Ok(Answer::UnequalLengths(_, _, _, _))
+            | Ok(Answer::UnexpectedEnd(_, _))
+            | Ok(Answer::End)
+            | Err(_) => {
+                self.tell(next.answer);
+                return ControlFlow::Break(());
+            }
+        }
+        ControlFlow::Continue(())
+    }
+
+    fn tell(&self, answer: Result<Answer, Refusal>) {
+        match answer {
+            Ok(answer) => telling::tell(self.rt, answer, self.window),
+            Err(refusal) => telling::text(self.rt, format_args!("refused {}", u8::from(refusal))),
+        }
+        telling::position(self.rt, self.reader);
+    }
+
+    // What is left of the input: the number of its first byte is that of the window's first byte and of those held.
+    fn left(&self) -> &'a [u8] {
+        let front = (self.reader.byte.0 as usize).wrapping_sub(self.reader.start);
+        let at = front.wrapping_add(self.reader.fill);
+        self.input.get(at..).unwrap_or_default()
+    }
+
+    // Feeds the next chunk of the input, or finishes where all of it is taken.
+    fn bring(&mut self) {
+        let left = self.left();
+        let next = left.get(..self.chunk).unwrap_or(left);
+        self.reader = if next.is_empty() {
+            self.reader.finish(self.window).state
+        } else {
+            self.reader.feed(self.window, next).state
         };
     }
-    telling::tell(rt, answer, window);
-    telling::position(rt, state);
-    if writers {
-        write(rt, answer, window);
-    }
-    Run {
-        reader: state,
-        closed: closes(answer),
-    }
-}
 
-fn write(rt: &impl Print, answer: Answer, window: &[u8]) {
-    if let Answer::Record(r, _) = answer {
-        telling::written(rt, r, window);
-    }
-}
-
-fn is_request(answer: Answer) -> bool {
-    if let Answer::More = answer {
-        true
-    } else {
-        false
-    }
-}
-
-// Only a record leaves the reading open.
-fn closes(answer: Answer) -> bool {
-    if let Answer::Record(_, _) = answer {
-        false
-    } else {
-        true
-    }
-}
-
-// The number of the input's byte that is to be fed next.
-fn fed(state: Reader) -> usize {
-    let byte = state.byte;
-    let front = std::num::wrapping_sub_usize(byte.0 as usize, state.start);
-    std::num::wrapping_add_usize(front, state.fill)
-}
-
-// Feeds the next chunk of the input, or finishes where all of it is taken.
-fn bring(state: Reader, chunk: usize, input: &[u8], window: &mut [u8]) -> Reader {
-    let next = chunk_at(input, fed(state), chunk);
-    if next.len() == 0 {
-        let f = state.finish(window);
-        return f.state;
-    }
-    let f = state.feed(window, next);
-    f.state
-}
-
-// The bytes of `s` from `at` on, n of them at most.
-fn chunk_at(s: &[u8], at: usize, n: usize) -> &[u8] {
-    if s.len() < at {
-        return &s[..0];
-    }
-    if s.len() - at < n {
-        return &s[at..];
-    }
-    let end = at + n;
-    &s[at..end]
-}
-
-// All of the input is fed and its end noted; then sets of at most so many records.
-fn sets(rt: &impl Print, reader: Reader, wanted: usize, input: &[u8], window: &mut [u8]) {
-    let f = reader.feed(window, input);
-    let whole = f.state;
-    let e = whole.finish(window);
-    let mut state = e.state;
-    let mut table = [0usize; 80];
-    for _ in 0..TURNS {
-        let x = sets::read_record_set_exact(state, window, &mut table, wanted);
-        state = x.state;
-        let a = x.answer;
-        if !listed(rt, a, &table, window) {
-            telling::position(rt, state);
-            return;
-        }
-        telling::position(rt, state);
-    }
-}
-
-// Tells a set, or the answer that is none.
-fn listed(rt: &impl Print, answer: Reply, table: &[usize], window: &[u8]) -> bool {
-    match answer {
-        Reply::Count(k) => {
-            entries(rt, lines::least(k, 16), table, window);
-            telling::value(rt, b"set of ", k as u64);
-            true
-        }
-        Reply::Other(a) => {
-            telling::tell(rt, a, window);
-            false
-        }
-        Reply::Refused(k) => {
-            telling::value(rt, b"refused ", k as u64);
-            false
+    // All of the input is fed and its end noted; then sets of at most so many records.
+    fn sets(&mut self, wanted: usize) {
+        self.reader = self.reader.feed(self.window, self.input).state;
+        self.reader = self.reader.finish(self.window).state;
+        let mut table = [0usize; 80];
+        for _ in 0..TURNS {
+            let set = sets::read_record_set_exact(self.reader, self.window, &mut table, wanted);
+            self.reader = set.state;
+            match set.answer {
+                Ok(Reply::Count(k)) => {
+                    self.entries(&table, k);
+                    telling::text(self.rt, format_args!("set of {k}"));
+                    telling::position(self.rt, self.reader);
+                }
+                Ok(Reply::Other(answer)) => return self.tell(Ok(answer)),
+                Err(refusal) => return self.tell(Err(refusal)),
+            }
         }
     }
-}
 
-// All of the input is in the window, so that a place there is an offset in the input.
-fn entries(rt: &impl Print, k: usize, table: &[usize], window: &[u8]) {
-    for i in 0..k {
-        entry(rt, table, i, window);
+    // All of the input is in the window, so that a place there is an offset in the input.
+    fn entries(&self, table: &[usize], k: usize) {
+        for &[start, seq, sep, qual, end] in table.as_chunks::<5>().0.iter().take(k) {
+            let r = Record {
+                start,
+                seq,
+                sep,
+                qual,
+                end,
+            };
+            telling::found(self.rt, r, Byte(start as u64), self.window);
+            telling::text(self.rt, "\n");
+        }
     }
-}
-
-fn entry(rt: &impl Print, table: &[usize], i: usize, window: &[u8]) {
-    if 16 <= i {
-        return;
-    }
-    let at = i * 5;
-    if table.len() < 80 {
-        return;
-    }
-    let start = table[at];
-    let r = Record {
-        start,
-        seq: table[at + 1],
-        sep: table[at + 2],
-        qual: table[at + 3],
-        end: table[at + 4],
-    };
-    telling::found(rt, r, Byte(start as u64), window);
-    telling::text(rt, b"\n");
 }

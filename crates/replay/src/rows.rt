@@ -1,105 +1,88 @@
 // Rows of the list, as text: a letter, the window's length, the chunks' length, two numbers, and the input in hexadecimal digits.
+// One byte stands between any two of these.
+use reader::{Byte, Line, Position};
+use std::slice::Iter;
 
-ghost use Rattle.std.specs.Prelude.{◌≡◌};
-
-// What stands in a row before its input, and where the input starts.
+// What stands in a row before its input.
 #[derive(Clone, Copy)]
 pub struct Row {
-    pub kind: u8, // n: by next; k: a seek to the line a and the byte b, once the reading is closed; s: by sets of at most a records
+    pub kind: Kind,
     pub window: usize,
     pub chunk: usize,
-    pub a: usize,
-    pub b: usize,
-    pub at: usize,
 }
 
-// A number and where the text goes on.
+// How the input is read: the letter, and what the two numbers say with it.
 #[derive(Clone, Copy)]
-pub struct Number {
-    pub value: usize,
-    pub at: usize,
+pub enum Kind {
+    Written, // n: by next, and each record is written again
+    Sought(Position), // k: by next; once the reading is closed, by next from a line and a byte on
+    InSets(usize), // s: by sets of at most so many records
+    Answered, // any other letter: by next
 }
 
-// How many bytes were put, and where the next row starts.
-#[derive(Clone, Copy)]
-pub struct Got {
-    pub count: usize,
-    pub at: usize,
-}
+// The most that a number is before its last digit.
+const MOST: usize = 100000000000000;
 
-fn byte(s: &[u8], at: usize) -> u8 {
-    if at < s.len() { s[at] } else { 10 }
-}
-
-// The digits from a place on, and one byte more. A number has at most 15 digits.
-fn numeral(s: &[u8], from: usize) -> Number {
-    let mut value: usize = 0;
-    let mut at = from;
-    while at < s.len() {
-        let b = s[at];
-        at += 1;
-        if b < 48 {
-            return Number { value, at };
+// The number that the next digits are; the byte behind them is taken too. A digit too many ends the number, where `parse` would refuse it.
+fn numeral(text: &mut Iter<'_, u8>) -> usize {
+    let mut value = 0;
+    for b in text.by_ref() {
+        if !b.is_ascii_digit() || MOST < value {
+            return value;
         }
-        if 57 < b {
-            return Number { value, at };
-        }
-        if 100000000000000 < value {
-            return Number { value, at };
-        }
-        value = value * 10 + wide(b - 48);
+        value = value * 10 + (*b - b'0') as usize;
     }
-    Number { value, at }
+    value
 }
 
-fn wide(x: u8) -> usize
-    ensures { result ≡ x }
-{
-    x as usize
-}
-
-pub fn parsed(s: &[u8], at: usize) -> Row {
-    let kind = byte(s, at);
-    let window = numeral(s, std::num::wrapping_add_usize(at, 2));
-    let chunk = numeral(s, window.at);
-    let a = numeral(s, chunk.at);
-    let b = numeral(s, a.at);
-    Row {
+// The next row up to its input, or nothing at the text's end.
+pub fn parsed(text: &mut Iter<'_, u8>) -> Option<Row> {
+    let letter = *text.next()?;
+    text.next();
+    let window = numeral(text);
+    let chunk = numeral(text);
+    let a = numeral(text);
+    let b = numeral(text);
+    let kind = match letter {
+        b'n' => Kind::Written,
+        b'k' => Kind::Sought(Position {
+            line: Line(a as u64),
+            byte: Byte(b as u64),
+        }),
+        b's' => Kind::InSets(a),
+        _ => Kind::Answered,
+    };
+    Some(Row {
         kind,
-        window: window.value,
-        chunk: chunk.value,
-        a: a.value,
-        b: b.value,
-        at: b.at,
+        window,
+        chunk,
+    })
+}
+
+// A hexadecimal digit's value. Capitals are no digits here, so that `to_digit` does not serve.
+fn digit(b: &u8) -> Option<u8> {
+    match *b {
+        b @ b'0'..=b'9' => Some(b - b'0'),
+        b @ b'a'..=b'f' => Some(b - b'a' + 10),
+        _ => None,
     }
 }
 
-// A hexadecimal digit's value; 16 for any other byte.
-fn digit(b: u8) -> u8 {
-    match b {
-        48..=57 => b - 48,
-        97..=102 => b - 87,
-        _ => 16,
-    }
+// The byte of the next pair of digits. Of the bytes that are no pair the first one is taken, if it is a digit or not.
+fn pair(text: &mut Iter<'_, u8>) -> Option<u8> {
+    let high = digit(text.next()?)?;
+    let low = digit(text.as_slice().first()?)?;
+    text.next();
+    Some(high << 4 | low)
 }
 
-// The bytes of pairs of digits, up to the first byte that is none.
-pub fn unhex(s: &[u8], from: usize, out: &mut [u8]) -> Got {
-    let mut at = from;
-    let mut count = 0;
-    while count < out.len() {
-        let high = digit(byte(s, at));
-        let low = digit(byte(s, std::num::wrapping_add_usize(at, 1)));
-        at = std::num::wrapping_add_usize(at, 1);
-        if 15 < high {
-            return Got { count, at };
-        }
-        if 15 < low {
-            return Got { count, at };
-        }
-        at = std::num::wrapping_add_usize(at, 1);
-        out[count] = high * 16 + low;
-        count += 1;
+// The bytes of the next pairs of digits, as many as there is room for.
+pub fn unhex<'a>(text: &mut Iter<'_, u8>, room: &'a mut [u8]) -> &'a [u8] {
+    for (n, place) in room.iter_mut().enumerate() {
+        let Some(byte) = pair(text) else {
+            return &room[..n];
+        };
+        *place = byte;
     }
-    Got { count, at }
+    room
 }

@@ -3,36 +3,35 @@
 use mathlib.Core.Path.{◌≡◌, refl, sym, ap, ◌∙◌}
 use mathlib.Core.Bool.{Bool, true, false, ◌||◌, true≢false}
 use mathlib.Core.List.{List, [], ◌∷◌, map}
-use Prim.Native.Nat.{ℕ, zero, suc, ◌+◌, ◌≤◌, min}
+use Prim.Native.Nat.{ℕ, zero, suc, ◌+◌, ◌≤◌}
 use native.Mathlib.Omega.{arith}
 use lib.ListN.{length, take}
-use lib.Dec.{leb, eqb}
+use lib.Dec.{leb}
 use Rattle.reading.specs.Bytes.{pieces, all_blank}
-use Rattle.reading.specs.Answer as reading
-use Rattle.reading.specs.Reading.{Verdict, good, bad_start, bad_separator, bad_lengths, Step, onward, unended, closing, judged, validate, rest, record_of, complete, tail_by, tail_rule, step_with}
+use Rattle.reading.specs.Reading.{Verdict, good, bad_start, bad_separator, bad_lengths, Step, onward, unended, judged, validate, rest, record_of, complete, tail_by, tail_rule}
 use Rattle.record.specs.declared.Noted.{Noted}
 use Rattle.record.specs.declared.Noted.TheVariants.{Zero, One, Two, Three, Four}
 use Rattle.record.specs.declared.Record.{Record}
-use Rattle.record.specs.Noted.{listed}
 use Rattle.reader.specs.declared.Byte.{Byte}
 use Rattle.reader.specs.declared.Reader.{Reader}
 use Rattle.reader.specs.declared.Answer.{Answer}
 use Rattle.reader.specs.declared.Decided.{Decided}
-use Rattle.reader.specs.declared.Answer.TheVariants.{End, Refused}
+use Rattle.reader.specs.declared.Answer.TheVariants.{End}
 use Rattle.reader.specs.State.{most_lines, position_of, own}
-use Rattle.reader.specs.Next.{answer_of, settled_by, decided_by, decided_of, onward_by, onward_of, searched_of, seeking_of, next_by, next_of}
-use Rattle.reader.specs.declared.Next.{Next}
+use Rattle.reader.specs.Next.{settled_by, decided_by, decided_of, onward_by, onward_of, searched_of, seeking_of, next_by, next_of}
+use Rattle.reader.specs.declared.Outcome.{Outcome}
 use Rattle.reader.proofs.Owning.{own_facts}
 use Rattle.reader.proofs.Nexting.{next_closed}
-use Rattle.sets.specs.declared.Row.TheVariants.{Of, No}
+use Rattle.std.specs.Prelude.{Some, None, Ok, Err}
+use Rattle.reader.specs.declared.Refusal.{Refusal}
 use Rattle.sets.specs.declared.Reply.TheVariants.{Count, Other}
-use Rattle.sets.specs.Sets.{row_in, next_start, placed, after_of, set_by, set_of, records_of}
+use Rattle.sets.specs.Sets.{record_in, row_in, next_start, placed, after_of, set_of, records_of}
 use Rattle.sets.specs.Calls.{answers_of, state_after}
 use Rattle.sets.proofs.Sounds.{next_sound, record_own}
 use Rattle.sets.proofs.Owned.{next_window, next_own, after_own}
 use Rattle.sets.proofs.Calls.{none_next, count_gives}
 
-never : {A : Type 0} (r : Record) → No ≡ Of r → A
+never : {A : Type 0} (r : Record) → None ≡ Some r → A
 never r e = let z : ◌≡◌ {A = ℕ} 0 1 = cc in absurd (omega arith)
 
 -- ---- how next leaves the state whose record it gave
@@ -47,44 +46,44 @@ Left closed (Two a b) = ⊥
 
 module _ (H : List ℕ) (W p L : ℕ) (b : Byte) (end : Bool) (r : Record) where
   -- a good verdict leaves the step as it is
-  whole : (s : Step) (v : Verdict) → row_in (settled_by b (judged L s v)).answer ≡ Of r → (settled_by b (judged L s v)).closed ≡ (settled_by b s).closed
+  whole : (s : Step) (v : Verdict) → record_in (settled_by b (judged L s v)).answer ≡ Some r → (settled_by b (judged L s v)).closed ≡ (settled_by b s).closed
   whole s good e = refl
   whole s (bad_start c) e = never r e
   whole s (bad_separator c i) e = never r e
   whole s (bad_lengths n m i) e = never r e
 
   -- with fewer than three line ends there is no record
-  few : (es : List ℕ) (blank : Bool) → row_in (settled_by b (tail_by H p L es false blank)).answer ≡ Of r → ⊥
+  few : (es : List ℕ) (blank : Bool) → record_in (settled_by b (tail_by H p L es false blank)).answer ≡ Some r → ⊥
   few es true e = never r e
   few es false e = never r e
 
   -- with fewer than four line ends a record comes by the tail rule
-  short : (es : List ℕ) → leb 4 (length es) ≡ false → row_in (decided_by H W p L b es (leb W (length (rest H p)) || end)).answer ≡ Of r
+  short : (es : List ℕ) → leb 4 (length es) ≡ false → record_in (decided_by H W p L b es (leb W (length (rest H p)) || end)).answer ≡ Some r
       → decided_by H W p L b es (leb W (length (rest H p)) || end) ≡ settled_by b (tail_rule H p L es)
   short es l = go (leb W (length (rest H p))) refl end
     where
-      go : (full : Bool) → leb W (length (rest H p)) ≡ full → (f : Bool) → row_in (decided_by H W p L b es (full || f)).answer ≡ Of r → decided_by H W p L b es (full || f) ≡ settled_by b (tail_rule H p L es)
+      go : (full : Bool) → leb W (length (rest H p)) ≡ full → (f : Bool) → record_in (decided_by H W p L b es (full || f)).answer ≡ Some r → decided_by H W p L b es (full || f) ≡ settled_by b (tail_rule H p L es)
       go true q f e = never r (rw (l, q) at e)
       go false q true e = rw (l, q)
       go false q false e = never r e
 
-  decided_left : (e : Noted) → row_in (decided_of H W p L b end e).answer ≡ Of r → Left (decided_of H W p L b end e).closed e
+  decided_left : (e : Noted) → record_in (decided_of H W p L b end e).answer ≡ Some r → Left (decided_of H W p L b end e).closed e
   unfolding decided_of complete tail_rule
   decided_left (Four a c d x) e = let y = record_of p (a ∷ c ∷ d ∷ x ∷ []) x in whole (onward y) (validate H y) e
   decided_left (Three a c d) e =
       let es : List ℕ = a ∷ c ∷ d ∷ [] in
       let y = record_of p es (length H) in
       let q = short es refl e in
-      ap (λ (k : Decided). k.closed) q ∙ whole (unended y) (validate H y) (sym (ap (λ (k : Decided). row_in k.answer) q) ∙ e)
-  decided_left Zero e = few [] (all_blank (pieces H p [])) (sym (ap (λ (k : Decided). row_in k.answer) (short [] refl e)) ∙ e)
-  decided_left (One a) e = few (a ∷ []) (all_blank (pieces H p (a ∷ []))) (sym (ap (λ (k : Decided). row_in k.answer) (short (a ∷ []) refl e)) ∙ e)
-  decided_left (Two a c) e = few (a ∷ c ∷ []) (all_blank (pieces H p (a ∷ c ∷ []))) (sym (ap (λ (k : Decided). row_in k.answer) (short (a ∷ c ∷ []) refl e)) ∙ e)
+      ap (λ (k : Decided). k.closed) q ∙ whole (unended y) (validate H y) (sym (ap (λ (k : Decided). record_in k.answer) q) ∙ e)
+  decided_left Zero e = few [] (all_blank (pieces H p [])) (sym (ap (λ (k : Decided). record_in k.answer) (short [] refl e)) ∙ e)
+  decided_left (One a) e = few (a ∷ []) (all_blank (pieces H p (a ∷ []))) (sym (ap (λ (k : Decided). record_in k.answer) (short (a ∷ []) refl e)) ∙ e)
+  decided_left (Two a c) e = few (a ∷ c ∷ []) (all_blank (pieces H p (a ∷ c ∷ []))) (sym (ap (λ (k : Decided). record_in k.answer) (short (a ∷ c ∷ []) refl e)) ∙ e)
 
-next_left : (s : Reader) (w : List ℕ) (r : Record) → row_in (next_of s w).answer ≡ Of r → Left (next_of s w).state.closed (next_of s w).state.noted
+next_left : (s : Reader) (w : List ℕ) (r : Record) → row_in (next_of s w).answer ≡ Some r → Left (next_of s w).state.closed (next_of s w).state.noted
 unfolding next_of seeking_of
 next_left s w r = go (own s (length w)) s.closed
   where
-    go : (o closed : Bool) → row_in (next_by s w o closed).answer ≡ Of r → Left (next_by s w o closed).state.closed (next_by s w o closed).state.noted
+    go : (o closed : Bool) → row_in (next_by s w o closed).answer ≡ Some r → Left (next_by s w o closed).state.closed (next_by s w o closed).state.noted
     go false closed e = never r e
     go true true e = never r e
     go true false e =
@@ -118,8 +117,8 @@ at_fill fill closed (One a) q l = absurd l
 at_fill fill closed (Two a b) q l = absurd l
 
 -- what holds behind every record holds after calls of next that all gave records
-after_records : (w : List ℕ) (P : Reader → Type 0) → ((u : Reader) (r : Record) → row_in (next_of u w).answer ≡ Of r → P (next_of u w).state)
-    → (k : ℕ) (s : Reader) (rs : List Record) → map row_in (answers_of (suc k) s w) ≡ map Of rs → P (state_after (suc k) s w)
+after_records : (w : List ℕ) (P : Reader → Type 0) → ((u : Reader) (r : Record) → row_in (next_of u w).answer ≡ Some r → P (next_of u w).state)
+    → (k : ℕ) (s : Reader) (rs : List Record) → map row_in (answers_of (suc k) s w) ≡ map Some rs → P (state_after (suc k) s w)
 unfolding answers_of state_after
 after_records w P f k s [] e = let z : ◌≡◌ {A = ℕ} 0 1 = cc in absurd (omega arith)
 after_records w P f zero s (r ∷ rs) e = f s r (cc)
@@ -130,47 +129,15 @@ record Follows (w : List ℕ) (t : Reader) : Type 0 where
   pub own : own (after_of t) (length w) ≡ true
   pub next : (next_of (after_of t) w).answer ≡ (next_of t w).answer
 
-follows : (w : List ℕ) (u : Reader) (r : Record) → row_in (next_of u w).answer ≡ Of r → (next_of u w).state.line.0 + 4 ≤ most_lines → Follows w (next_of u w).state
+follows : (w : List ℕ) (u : Reader) (r : Record) → row_in (next_of u w).answer ≡ Some r → (next_of u w).state.line.0 + 4 ≤ most_lines → Follows w (next_of u w).state
 follows w u r e h =
     let o = record_own u w r e in
     let a = after_own (next_of u w).state (length w) (next_sound u w o) ((own_facts u (length w) o).opened ∙ sym (next_window u w)) h in
     record { own = a; next = then_next (next_of u w).state w (next_own u w o (omega arith)) a (next_left u w r e) }
 
--- of an own state next answers no refusal
-unrefused : (s : Reader) (w : List ℕ) (c : ℕ) → own s (length w) ≡ true → (next_of s w).answer ≡ Refused c → ⊥
-unfolding next_of seeking_of decided_of
-unrefused s w c o e = go s.closed (rw o at e)
-  where
-    by : (b : Byte) (a : reading.Answer) → answer_of b a ≡ Refused c → ◌≡◌ {A = ℕ} 0 1
-    by b (reading.found r) e = cc
-    by b (reading.window_limit L p) e = cc
-    by b (reading.invalid_start x L) e = cc
-    by b (reading.invalid_separator x L i) e = cc
-    by b (reading.unequal_lengths n m L i) e = cc
-    by b (reading.unexpected_end L i) e = cc
-    by b reading.ended e = cc
-
-    step : (b : Byte) (x : Step) → (settled_by b x).answer ≡ Refused c → ◌≡◌ {A = ℕ} 0 1
-    step b (onward r) e = by b (reading.found r) e
-    step b (unended r) e = by b (reading.found r) e
-    step b (closing a) e = by b a e
-
-    decided : (H : List ℕ) (W p L : ℕ) (b : Byte) (es : List ℕ) (t : Bool) → (decided_by H W p L b es t).answer ≡ Refused c → ◌≡◌ {A = ℕ} 0 1
-    decided H W p L b es true e = step b (step_with H W p L es) e
-    decided H W p L b es false e = cc
-
-    go : (closed : Bool) → (next_by s w true closed).answer ≡ Refused c → ⊥
-    go true e = let z : ◌≡◌ {A = ℕ} 0 1 = cc in omega arith
-    go false e =
-        let u = onward_of s in
-        let es = listed (searched_of u w).noted in
-        let z = decided (take u.fill w) u.window u.start u.line.0 u.byte es
-        (leb 4 (length es) || (leb u.window (length (rest (take u.fill w) u.start)) || u.ended)) e in
-        omega arith
-
 module _ (s : Reader) (w : List ℕ) (room wanted : ℕ) where
   -- the state that a set call leaves is own, unless its line passes the highest, and next answers from it what it would have answered behind the records
-  pub set_follows : (k : ℕ) → (set_of s w room wanted).answer ≡ Count k → (set_of s w room wanted).state.line.0 ≤ most_lines
+  pub set_follows : (k : ℕ) → (set_of s w room wanted).answer ≡ Ok (Count k) → (set_of s w room wanted).state.line.0 ≤ most_lines
       → (own (set_of s w room wanted).state (length w) ≡ true) × ((next_of (set_of s w room wanted).state w).answer ≡ (next_of (state_after k s w) w).answer)
   set_follows zero e h = absurd (omega (arith, (count_gives s w room wanted 0 e).0))
   set_follows (suc k) e h =
@@ -180,14 +147,14 @@ module _ (s : Reader) (w : List ℕ) (room wanted : ℕ) where
       (rw q f.own, rw q f.next)
 
   -- the state that a set call leaves is not waiting, and nothing of the following record counts as searched
-  pub count_unsearched : (k : ℕ) → (set_of s w room wanted).answer ≡ Count k
+  pub count_unsearched : (k : ℕ) → (set_of s w room wanted).answer ≡ Ok (Count k)
       → ((set_of s w room wanted).state.waiting ≡ false) × ((set_of s w room wanted).state.noted ≡ Zero) × ((set_of s w room wanted).state.mark ≡ (set_of s w room wanted).state.start)
   count_unsearched k e = rw (count_gives s w room wanted k e).2 (refl, refl, refl)
 
   -- after a record with no final LF: the position is four lines on and at the end of the held bytes, and a following End keeps it
-  pub unended_keeps : (k : ℕ) → (set_of s w room wanted).answer ≡ Count k → (set_of s w room wanted).state.closed ≡ true → (set_of s w room wanted).state.line.0 ≤ most_lines
+  pub unended_keeps : (k : ℕ) → (set_of s w room wanted).answer ≡ Ok (Count k) → (set_of s w room wanted).state.closed ≡ true → (set_of s w room wanted).state.line.0 ≤ most_lines
       → (let t = state_after k s w in (set_of s w room wanted).state ≡ placed t t.fill)
-      × ((next_of (set_of s w room wanted).state w).answer ≡ End)
+      × ((next_of (set_of s w room wanted).state w).answer ≡ Ok End)
       × (position_of (next_of (set_of s w room wanted).state w).state ≡ position_of (set_of s w room wanted).state)
   unended_keeps zero e c h = absurd (omega (arith, (count_gives s w room wanted 0 e).0))
   unended_keeps (suc k) e c h =
@@ -195,13 +162,8 @@ module _ (s : Reader) (w : List ℕ) (room wanted : ℕ) where
       let l = after_records w (λ t. Left t.closed t.noted) (λ u r q. next_left u w r q) k s (records_of s w room wanted) g.1.given in
       let n = next_closed (set_of s w room wanted).state w (set_follows (suc k) e h).0 c in
       let t = state_after (suc k) s w in
-      (g.2 ∙ ap (placed t) (at_fill t.fill t.closed t.noted (sym (ap (λ (r : Reader). r.closed) g.2) ∙ c) l), ap (λ (x : Next). x.answer) (sym n), ap (λ (x : Next). position_of x.state) (sym n))
+      (g.2 ∙ ap (placed t) (at_fill t.fill t.closed t.noted (sym (ap (λ (r : Reader). r.closed) g.2) ∙ c) l), ap (λ (x : Outcome Answer). x.answer) (sym n), ap (λ (x : Outcome Answer). position_of x.state) (sym n))
 
   -- an answer of next that a set call hands on is no refusal
-  pub none_unrefused : (a : Answer) → (set_of s w room wanted).answer ≡ Other a → (c : ℕ) → a ≡ Refused c → ⊥
-  unfolding set_of
-  none_unrefused a e c f = let h = (none_next s w room wanted a e).0 in unrefused s w c (go (own s (length w)) e) (sym h ∙ f)
-    where
-      go : (o : Bool) → (set_by (min wanted room) s w o (eqb (min wanted room) 0)).answer ≡ Other a → o ≡ true
-      go true q = refl
-      go false q = let z : ◌≡◌ {A = ℕ} 0 1 = cc in absurd (omega arith)
+  pub none_unrefused : (a : Answer) → (set_of s w room wanted).answer ≡ Ok (Other a) → (c : Refusal) → (next_of s w).answer ≡ Err c → ⊥
+  none_unrefused a e c f = let h : Ok a ≡ Err c = (none_next s w room wanted a e).0 ∙ f in let z : ◌≡◌ {A = ℕ} 0 1 = cc in omega arith

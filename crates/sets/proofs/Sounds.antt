@@ -17,7 +17,7 @@ use Rattle.reader.specs.State.{own, Notes, Own}
 use Rattle.reader.specs.Next.{onward_by, onward_of, seeking_of, next_by, next_of}
 use Rattle.reader.proofs.Owning.{own_facts}
 use Rattle.reader.proofs.Nexting.{sought_notes, onward_seeks}
-use Rattle.sets.specs.declared.Row.TheVariants.{Of}
+use Rattle.std.specs.Prelude.{Some}
 use Rattle.sets.specs.Sets.{row_in, next_start}
 use Rattle.sets.specs.Inside.{Sound}
 
@@ -102,10 +102,10 @@ next_sound s w o = rw o (go s.closed)
     go false = seeking_sound (onward_of s) w (onward_sound s (length w) f) (onward_seeks s (length w) f).inside
 
 -- a state in which next gives a record is own
-pub record_own : (s : Reader) (w : List ℕ) (r : Record) → row_in (next_of s w).answer ≡ Of r → own s (length w) ≡ true
+pub record_own : (s : Reader) (w : List ℕ) (r : Record) → row_in (next_of s w).answer ≡ Some r → own s (length w) ≡ true
 unfolding next_of
 record_own s w r = go (own s (length w))
   where
-    go : (o : Bool) → row_in (next_by s w o s.closed).answer ≡ Of r → o ≡ true
+    go : (o : Bool) → row_in (next_by s w o s.closed).answer ≡ Some r → o ≡ true
     go true e = refl
     go false e = cc

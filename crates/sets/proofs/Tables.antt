@@ -1,7 +1,6 @@
 -- Laws of the table: entries that are stored one by one stand over its front.
 -- Assumes nothing.
 use mathlib.Core.Path.{◌≡◌, refl, sym, ap, ◌∙◌}
-use mathlib.Core.Bool.{true, false}
 use mathlib.Core.List.{List, [], ◌∷◌}
 use Prim.Native.Nat.{ℕ, zero, suc, ◌+◌, ◌*◌, ◌/◌, ◌<◌, ◌≤◌, min}
 use native.Mathlib.Omega.{arith}
@@ -11,8 +10,7 @@ use lib.Seq.{sets, sets-eq, length-sets}
 use Rattle.record.specs.declared.Record.{Record}
 use Rattle.reader.specs.declared.Reader.{Reader}
 use Rattle.reader.specs.Next.{next_of}
-use Rattle.sets.specs.declared.Row.{Row}
-use Rattle.sets.specs.declared.Row.TheVariants.{Of, No}
+use Rattle.std.specs.Prelude.{Option, Some, None}
 use Rattle.sets.specs.declared.Run.{Run}
 use Rattle.sets.specs.Inside.{step_of, begin_of, left_of, Ready}
 use Rattle.sets.proofs.Runs.{step_count, step_left, end_left, begin_count, begin_left}
@@ -24,9 +22,9 @@ unfolding collected
 collected_most zero s w = omega arith
 collected_most (suc n) s w = go (row_in (next_of s w).answer) (collected_most n (next_of s w).state w)
   where
-    go : (o : Row) → length (collected n (next_of s w).state w).records ≤ n → length (collected_by (λ t. collected n t w) s (next_of s w).state o).records ≤ suc n
-    go (Of r) h = omega arith
-    go No h = omega arith
+    go : (o : Option Record) → length (collected n (next_of s w).state w).records ≤ n → length (collected_by (λ t. collected n t w) s (next_of s w).state o).records ≤ suc n
+    go (Some r) h = omega arith
+    go None h = omega arith
 
 pub rows_length : (rs : List Record) → length (rows_of rs) ≡ length rs * 5
 unfolding rows_of
@@ -55,21 +53,21 @@ rows_turn t k r rs =
     ap (λ (i : ℕ). sets (sets t (k * 5) (numbers_of r)) i (rows_of rs)) z
 
 -- a turn of the loop over numbers: t' is the table after it, and u the run
-pub turn_rows : (r u : Run) (w t t' : List ℕ) → r.more ≡ true → r.count < r.wanted → u ≡ step_of r w → t' ≡ sets t (r.count * 5) (numbers_of r.entry)
+pub turn_rows : (r u : Run) (w t t' : List ℕ) (i : Record) → r.entry ≡ Some i → r.count < r.wanted → u ≡ step_of r w → t' ≡ sets t (r.count * 5) (numbers_of i)
     → sets t' (u.count * 5) (rows_of (left_of u w)) ≡ sets t (r.count * 5) (rows_of (left_of r w))
-turn_rows r u w t t' m h e f =
+turn_rows r u w t t' i m h e f =
     let left = left_of (step_of r w) w in
-    rw (f, e, step_left r w m h)
-    (ap (λ (i : ℕ). sets (sets t (r.count * 5) (numbers_of r.entry)) (i * 5) (rows_of left)) (step_count r w m h) ∙ sym (rows_turn t r.count r.entry left))
+    rw (f, e, step_left r w i m h)
+    (ap (λ (j : ℕ). sets (sets t (r.count * 5) (numbers_of i)) (j * 5) (rows_of left)) (step_count r w i m h) ∙ sym (rows_turn t r.count i left))
 
 -- where nothing is left to list, the table is as it is to be
-pub end_rows : (r : Run) (w t : List ℕ) (i : ℕ) → r.more ≡ false → t ≡ sets t i (rows_of (left_of r w))
+pub end_rows : (r : Run) (w t : List ℕ) (i : ℕ) → r.entry ≡ None → t ≡ sets t i (rows_of (left_of r w))
 unfolding rows_of
 end_rows r w t i m = rw (end_left r w m)
 
 -- an entry that is to be listed has its place
-pub entry_fits : (r : Run) (n : ℕ) → r.more ≡ true → Ready r (n / 5) → r.count * 5 + 5 ≤ n
-entry_fits r n m f = omega (arith, f.ahead m, f.fits, div-mul-le_self n 5)
+pub entry_fits : (r : Run) (n : ℕ) (i : Record) → r.entry ≡ Some i → Ready r (n / 5) → r.count * 5 + 5 ≤ n
+entry_fits r n i m f = omega (arith, f.ahead i m, f.fits, div-mul-le_self n 5)
 
 -- the table after a set call, as it was stored
 table_is : (s : Reader) (w : List ℕ) (wanted : ℕ) (t : List ℕ) → sets t 0 (rows_of (records_of s w (length t / 5) wanted)) ≡ table_of s w wanted t
@@ -95,15 +93,15 @@ begin_rows s w wanted t r e =
 -- ---- a table of entries
 
 -- a turn of the loop over entries: u is the run after it
-pub turn_entries : (r u : Run) (w : List ℕ) (t : List Record) → r.more ≡ true → r.count < r.wanted → u ≡ step_of r w
-    → sets (set t r.count r.entry) u.count (left_of u w) ≡ sets t r.count (left_of r w)
-turn_entries r u w t m h e =
+pub turn_entries : (r u : Run) (w : List ℕ) (t : List Record) (i : Record) → r.entry ≡ Some i → r.count < r.wanted → u ≡ step_of r w
+    → sets (set t r.count i) u.count (left_of u w) ≡ sets t r.count (left_of r w)
+turn_entries r u w t i m h e =
     let z : r.count + 1 ≡ suc r.count = omega arith in
-    rw (e, step_left r w m h)
-    (ap (λ (i : ℕ). sets (set t r.count r.entry) i (left_of (step_of r w) w)) (step_count r w m h ∙ z))
+    rw (e, step_left r w i m h)
+    (ap (λ (j : ℕ). sets (set t r.count i) j (left_of (step_of r w) w)) (step_count r w i m h ∙ z))
 
 -- where nothing is left to list, the table is as it is to be
-pub end_entries : (r : Run) (w : List ℕ) (t : List Record) (i : ℕ) → r.more ≡ false → t ≡ sets t i (left_of r w)
+pub end_entries : (r : Run) (w : List ℕ) (t : List Record) (i : ℕ) → r.entry ≡ None → t ≡ sets t i (left_of r w)
 end_entries r w t i m = rw (end_left r w m)
 
 -- what is left to list at the beginning makes the table

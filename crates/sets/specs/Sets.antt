@@ -1,43 +1,46 @@
 -- Sets of records: document 01, "Sets of records". A set call lists records as next would give them, and stops before the first other answer.
 -- Assumes nothing.
-use Rattle.std.specs.Prelude.{ℕ, zero, suc, ◌+◌, ◌-◌, ◌/◌, min, Bool, true, false, List, [], ◌∷◌, ◌++◌, length, drop, eqb}
-use Rattle.std.proofs.Math.Option.{Option, none, some}
+use Rattle.std.specs.Prelude.{ℕ, zero, suc, ◌+◌, ◌-◌, ◌/◌, min, Bool, true, false, List, [], ◌∷◌, ◌++◌, length, drop, eqb, Option, Some, None, Result, Ok, Err}
+use Rattle.std.proofs.Math.Option as math
 use Rattle.record.specs.declared.Record.{Record}
 use Rattle.record.specs.declared.Noted.{Noted}
 use Rattle.record.specs.declared.Noted.TheVariants.{Zero, One, Two, Three, Four}
 use Rattle.reader.specs.declared.Reader.{Reader}
 use Rattle.reader.specs.declared.Answer.{Answer}
-use Rattle.reader.specs.declared.Answer.TheVariants.{Record as a_record, More, WindowLimit, InvalidStart, InvalidSeparator, UnequalLengths, UnexpectedEnd, End, Refused}
-use Rattle.reader.specs.declared.Next.{Next}
-use Rattle.reader.specs.State.{state_of, own}
+use Rattle.reader.specs.declared.Answer.TheVariants.{Record as a_record, More, WindowLimit, InvalidStart, InvalidSeparator, UnequalLengths, UnexpectedEnd, End}
+use Rattle.reader.specs.declared.Refusal.{Refusal}
+use Rattle.reader.specs.declared.Refusal.TheVariants.{Foreign, NothingToDo}
+use Rattle.reader.specs.declared.Outcome.{Outcome}
+use Rattle.reader.specs.State.{number_of, state_of, own}
 use Rattle.reader.specs.Next.{next_of}
-use Rattle.reader.specs.Numbers.{next_number}
-use Rattle.sets.specs.declared.Row.{Row}
-use Rattle.sets.specs.declared.Row.TheVariants.{Of, No}
+use Rattle.reader.specs.Numbers.{answer_number}
 use Rattle.sets.specs.declared.Reply.{Reply}
-use Rattle.sets.specs.declared.Reply.TheVariants as reply
-use Rattle.sets.specs.declared.Listed.{Listed}
+use Rattle.sets.specs.declared.Reply.TheVariants.{Count, Other}
 
--- the record that an answer gives, if it gives one
-abbrev pub row_in : Answer → Row
-row_in (a_record r b) = Of r
-row_in More = No
-row_in (WindowLimit L b) = No
-row_in (InvalidStart x L) = No
-row_in (InvalidSeparator x L i) = No
-row_in (UnequalLengths n m L i) = No
-row_in (UnexpectedEnd L i) = No
-row_in End = No
-row_in (Refused k) = No
+-- the record that an answer of next gives, if it gives one
+abbrev pub record_in : Answer → Option Record
+record_in (a_record r b) = Some r
+record_in More = None
+record_in (WindowLimit L b) = None
+record_in (InvalidStart x L) = None
+record_in (InvalidSeparator x L i) = None
+record_in (UnequalLengths n m L i) = None
+record_in (UnexpectedEnd L i) = None
+record_in End = None
+
+-- the same where next may be refused
+abbrev pub row_in : Result Answer Refusal → Option Record
+row_in (Ok a) = record_in a
+row_in (Err r) = None
 
 -- records that next gives one after the other, and the state after the last of them
 pub record Collected : Type 0 where
   pub records : List Record
   pub state : Reader
 
-abbrev pub collected_by : (Reader → Collected) → Reader → Reader → Row → Collected
-collected_by go s t No = record { records = []; state = s }
-collected_by go s t (Of r) = record { records = r ∷ (go t).records; state = (go t).state }
+abbrev pub collected_by : (Reader → Collected) → Reader → Reader → Option Record → Collected
+collected_by go s t None = record { records = []; state = s }
+collected_by go s t (Some r) = record { records = r ∷ (go t).records; state = (go t).state }
 
 -- the records that next gives from the state s on, at most n: any answer that is no record ends them
 unfoldable pub collected : ℕ → Reader → List ℕ → Collected
@@ -60,31 +63,36 @@ placed s p = state_of s.window p s.fill Zero p (s.line.0 + 4) (s.byte.0 + (p - s
 abbrev pub after_of : Reader → Reader
 after_of s = placed s (next_start s.fill s.noted)
 
-abbrev pub listed : Reader → Reply → Listed
+abbrev pub listed : Reader → Result Reply Refusal → Outcome Reply
 listed s a = record { state = s; answer = a }
 
--- document 01's number of what a set call answers: 2 or 6, or that of next's answer; a count has none
-abbrev pub set_number : Reply → Option ℕ
-set_number (reply.Count k) = none
-set_number (reply.Other a) = next_number a
-set_number (reply.Refused k) = some k
+-- document 01's number of what a set call answers: that of next's answer, a count has none; refused with 2 or 6
+abbrev pub set_number : Result Reply Refusal → math.Option ℕ
+set_number (Ok (Count k)) = math.none
+set_number (Ok (Other a)) = answer_number a
+set_number (Err r) = math.some (number_of r)
+
+-- what next answers, as a set call hands it on
+abbrev pub other_of : Result Answer Refusal → Result Reply Refusal
+other_of (Ok a) = Ok (Other a)
+other_of (Err r) = Err r
 
 -- by the count of listed records: with none, answer and state are next's
-abbrev pub listed_by : ℕ → Next → Reader → Listed
-listed_by zero x t = listed x.state (reply.Other x.answer)
-listed_by (suc k) x t = listed (after_of t) (reply.Count (suc k))
+abbrev pub listed_by : ℕ → Outcome Answer → Reader → Outcome Reply
+listed_by zero x t = listed x.state (other_of x.answer)
+listed_by (suc k) x t = listed (after_of t) (Ok (Count (suc k)))
 
-abbrev pub listed_of : ℕ → Reader → List ℕ → Listed
+abbrev pub listed_of : ℕ → Reader → List ℕ → Outcome Reply
 listed_of n s w = listed_by (length (collected n s w).records) (next_of s w) (collected n s w).state
 
 -- by the tests: the state is own; no record is wanted or the table has no room for one
-abbrev pub set_by : ℕ → Reader → List ℕ → Bool → Bool → Listed
-set_by n s w false empty = listed s (reply.Refused 2)
-set_by n s w true true = listed s (reply.Refused 6)
+abbrev pub set_by : ℕ → Reader → List ℕ → Bool → Bool → Outcome Reply
+set_by n s w false empty = listed s (Err Foreign)
+set_by n s w true true = listed s (Err NothingToDo)
 set_by n s w true false = listed_of n s w
 
 -- what a set call answers, for a table with room for so many entries
-unfoldable pub set_of : Reader → List ℕ → ℕ → ℕ → Listed
+unfoldable pub set_of : Reader → List ℕ → ℕ → ℕ → Outcome Reply
 set_of s w room wanted = set_by (min wanted room) s w (own s (length w)) (eqb (min wanted room) 0)
 
 -- the five numbers of an entry

@@ -4,31 +4,17 @@
 
 ghost use Rattle.std.specs.Prelude.{◌≡◌, ◌+◌, ◌<◌, ◌≤◌, ◌/◌, length};
 ghost use Rattle.std.proofs.lemmas.List.Edits.{sets};
-ghost use Rattle.sets.specs.Sets.{row_in, next_start, after_of, numbers_of, set_of, table_of, entries_of};
+ghost use Rattle.sets.specs.Sets.{record_in, row_in, other_of, next_start, after_of, numbers_of, set_of, table_of, entries_of};
 ghost use Rattle.sets.specs.Inside.{over_of, look_of, step_of, begin_of, stopped_of, Sound};
 
-use reader::{Answer, Byte, Line, Reader};
+use reader::{Answer, Byte, Line, Outcome, Reader, Refusal};
 use record::{Noted, Record};
 
-// What a set call answers: how many records it listed; with none, next's answer; or 2 or 6.
-#[derive(Clone, Copy)]
+// What a set call answers: how many records it listed; with none, next's answer.
+#[derive(Clone, Copy, Debug, PartialEq, Eq)]
 pub enum Reply {
     Count(usize),
     Other(Answer),
-    Refused(u8),
-}
-
-#[derive(Clone, Copy)]
-pub struct Listed {
-    pub state: Reader,
-    pub answer: Reply,
-}
-
-// The record that an answer gives, or no record.
-#[derive(Clone, Copy)]
-pub enum Row {
-    Of(Record),
-    No,
 }
 
 // A set call on its way: so many records are listed of those wanted.
@@ -36,25 +22,44 @@ pub enum Row {
 pub struct Run {
     pub count: usize,
     pub wanted: usize,
-    pub more: bool, // there is a record to list
-    pub entry: Record, // that record
+    pub entry: Option<Record>, // the record to list next, if there is one
     pub state: Reader, // the state after it
-    pub out: Listed, // the answer, where there is no more to list
+    pub out: Outcome<Reply>, // the answer, where there is no more to list
 }
 
-fn given(answer: Answer) -> Row
+// The record that an answer of next gives, if it gives one.
+fn record_in(answer: Answer) -> Option<Record>
+    ensures { result ≡ record_in answer }
+{
+    match answer {
+        Answer::Record(r, _) => Some(r),
+        Answer::More => None,
+        Answer::WindowLimit(_, _) => None,
+        Answer::InvalidStart(_, _) => None,
+        Answer::InvalidSeparator(_, _, _) => None,
+        Answer::UnequalLengths(_, _, _, _) => None,
+        Answer::UnexpectedEnd(_, _) => None,
+        Answer::End => None,
+    }
+}
+
+// The same where next may be refused.
+fn given(answer: Result<Answer, Refusal>) -> Option<Record>
     ensures { result ≡ row_in answer }
 {
     match answer {
-        Answer::Record(r, _) => Row::Of(r),
-        Answer::More => Row::No,
-        Answer::WindowLimit(_, _) => Row::No,
-        Answer::InvalidStart(_, _) => Row::No,
-        Answer::InvalidSeparator(_, _, _) => Row::No,
-        Answer::UnequalLengths(_, _, _, _) => Row::No,
-        Answer::UnexpectedEnd(_, _) => Row::No,
-        Answer::End => Row::No,
-        Answer::Refused(_) => Row::No,
+        Ok(a) => record_in(a),
+        Err(_) => None,
+    }
+}
+
+// What next answers, as a set call hands it on.
+fn other(answer: Result<Answer, Refusal>) -> Result<Reply, Refusal>
+    ensures { result ≡ other_of answer }
+{
+    match answer {
+        Ok(a) => Ok(Reply::Other(a)),
+        Err(refusal) => Err(refusal),
     }
 }
 
@@ -82,35 +87,25 @@ fn after(state: Reader) -> Reader
     let byte = state.byte;
     let at = next_start(noted, state.fill);
     Reader {
-        window: state.window,
         start: at,
-        fill: state.fill,
         noted: Noted::Zero,
         mark: at,
         line: Line(line.0 + 4),
         byte: Byte(byte.0 + ((at - state.start) as u64)),
-        ended: state.ended,
         waiting: false,
-        closed: state.closed,
+        ..state
     }
 }
 
 impl Run {
     // There is no more to list.
-    fn over(count: usize, state: Reader, out: Listed) -> Run
+    fn over(count: usize, state: Reader, out: Outcome<Reply>) -> Run
         ensures { result ≡ over_of count state out }
     {
         Run {
             count,
             wanted: count,
-            more: false,
-            entry: Record {
-                start: 0,
-                seq: 0,
-                sep: 0,
-                qual: 0,
-                end: 0,
-            },
+            entry: None,
             state,
             out,
         }
@@ -125,9 +120,9 @@ impl Run {
         Run::over(
             count,
             state,
-            Listed {
+            Outcome {
                 state: s,
-                answer: Reply::Count(count),
+                answer: Ok(Reply::Count(count)),
             },
         )
     }
@@ -139,22 +134,19 @@ impl Run {
     {
         let x = state.next(window);
         let then = x.state;
-        let a = x.answer;
-        let g = given(a);
-        let out = Listed {
+        let out = Outcome {
             state: then,
-            answer: Reply::Other(a),
+            answer: other(x.answer),
         };
-        match g {
-            Row::Of(entry) => Run {
+        match given(x.answer) {
+            Some(r) => Run {
                 count,
                 wanted,
-                more: true,
-                entry,
+                entry: Some(r),
                 state: then,
                 out,
             },
-            Row::No => {
+            None => {
                 if count == 0 {
                     return Run::over(0, state, out);
                 }
@@ -184,20 +176,20 @@ impl Run {
             return Run::over(
                 0,
                 state,
-                Listed {
+                Outcome {
                     state,
-                    answer: Reply::Refused(2),
+                    answer: Err(Refusal::Foreign),
                 },
             );
         }
-        let n = lines::least(wanted, room);
+        let n = wanted.min(room);
         if n == 0 {
             return Run::over(
                 0,
                 state,
-                Listed {
+                Outcome {
                     state,
-                    answer: Reply::Refused(6),
+                    answer: Err(Refusal::NothingToDo),
                 },
             );
         }
@@ -223,22 +215,20 @@ pub fn read_record_set_exact(
     window: &[u8],
     table: &mut [usize],
     wanted: usize,
-) -> Listed
+) -> Outcome<Reply>
     ensures answer { result ≡ set_of state window.now (length table.old / 5) wanted }
     ensures numbers { table.new ≡ table_of state window.now wanted table.old }
 {
     let mut run = Run::begin(state, window, table.len() / 5, wanted);
-    while run.more {
-        let at = run.count * 5;
-        let entry = run.entry;
-        put(table, at, entry);
+    while let Some(entry) = run.entry {
+        put(table, run.count * 5, entry);
         run = run.step(window);
     }
     run.out
 }
 
 // Lists as many records as there are and the table has whole entries for.
-pub fn read_record_set(state: Reader, window: &[u8], table: &mut [usize]) -> Listed
+pub fn read_record_set(state: Reader, window: &[u8], table: &mut [usize]) -> Outcome<Reply>
     ensures answer { result ≡ set_of state window.now (length table.old / 5) (length table.old / 5) }
     ensures numbers { table.new ≡ table_of state window.now (length table.old / 5) table.old }
 {
@@ -250,18 +240,18 @@ pub fn read_record_set(state: Reader, window: &[u8], table: &mut [usize]) -> Lis
 pub type Entry = Record;
 
 // The same on a table of entries, which are stored one by one.
+// The loop stands twice: a slice is no type that a trait could be written for, and each table would need a wrapper with its laws.
 pub fn read_entries_exact(
     state: Reader,
     window: &[u8],
     table: &mut [Entry],
     wanted: usize,
-) -> Listed
+) -> Outcome<Reply>
     ensures { (result ≡ set_of state window.now (length table.old) wanted) × (table.new ≡ entries_of state window.now wanted table.old) }
 {
     let mut run = Run::begin(state, window, table.len(), wanted);
-    while run.more {
-        let k = run.count;
-        table[k] = run.entry;
+    while let Some(entry) = run.entry {
+        table[run.count] = entry;
         run = run.step(window);
     }
     run.out

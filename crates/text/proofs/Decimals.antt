@@ -54,14 +54,14 @@ stored (y ∷ l) (suc j) x h = stored l j x (omega arith)
 pub stored_before : (l : List ℕ) (i x : ℕ) → 1 ≤ i → i ≤ length l → drop (i - 1) (set l (i - 1) x) ≡ x ∷ drop i l
 stored_before l i x h k = let e : suc (i - 1) ≡ i = omega arith in stored l (i - 1) x (omega arith) ∙ ap (λ (j : ℕ). x ∷ drop j l) e
 
-module _ (l all : List ℕ) (r i d : ℕ) (e : decimal r ++ drop i l ≡ all) where
+module _ (l all : List ℕ) (r i : ℕ) (e : decimal r ++ drop i l ≡ all) where
   -- with the last digit of r in front of i, those of its tenth are left
-  pub digit_more : d ≡ ZERO + r % 10 → 10 ≤ r → 1 ≤ i → i ≤ length l → decimal (r / 10) ++ drop (i - 1) (set l (i - 1) d) ≡ all
-  digit_more f g h k = rw (stored_before l i d h k, f) (sym (append_snoc (decimal (r / 10)) (ZERO + r % 10) (drop i l)) ∙ rw (decimal_more r g) at e)
+  pub digit_more : 10 ≤ r → 1 ≤ i → i ≤ length l → decimal (r / 10) ++ drop (i - 1) (set l (i - 1) (ZERO + r % 10)) ≡ all
+  digit_more g h k = rw (stored_before l i (ZERO + r % 10) h k) (sym (append_snoc (decimal (r / 10)) (ZERO + r % 10) (drop i l)) ∙ rw (decimal_more r g) at e)
 
   -- with the only digit of r in front of i, none is left
-  pub digit_last : d ≡ ZERO + r → r < 10 → 1 ≤ i → i ≤ length l → drop (i - 1) (set l (i - 1) d) ≡ all
-  digit_last f g h k = rw (stored_before l i d h k, f) (rw (decimal_last r g) at e)
+  pub digit_last : r < 10 → 1 ≤ i → i ≤ length l → drop (i - 1) (set l (i - 1) (ZERO + r % 10)) ≡ all
+  digit_last g h k = let m : r % 10 ≡ r = omega arith in rw (stored_before l i (ZERO + r % 10) h k, m) (rw (decimal_last r g) at e)
 
 -- ---- room for the digits
 
@@ -69,10 +69,6 @@ module _ (l all : List ℕ) (r i d : ℕ) (e : decimal r ++ drop i l ≡ all) wh
 tenth_power : (r k : ℕ) → 10 ≤ r → r < 10 ^ suc k → (1 ≤ k) × (r / 10 < 10 ^ k)
 tenth_power r zero h g = absurd (omega arith)
 tenth_power r (suc k) h g = (omega arith, (div-lt_iff_lt-mul {k = 10} {x = r} {y = 10 ^ suc k} (omega arith)).1 (rw (pow-suc 10 (suc k)) at g))
-
--- a number of 64 bits has at most 20 digits
-pub twenty : (n end : ℕ) → n < 2 ^ 64 → n < 10 ^ (end + 20 - end)
-twenty n end h = let e : end + 20 - end ≡ 20 = omega arith in rw e (omega arith)
 
 -- a place is left for each digit that is left
 pub places_left : (r i end : ℕ) → r < 10 ^ (i + 20 - end) → 10 ≤ r → 1 ≤ i → i ≤ end → end ≤ i + 19 → (end ≤ i - 1 + 19) × (r / 10 < 10 ^ (i - 1 + 20 - end))

@@ -1,9 +1,7 @@
 -- A number out of text.
 -- Assumes nothing.
-use Rattle.std.specs.Prelude.{ℕ, ◌+◌, ◌-◌, ◌*◌, Bool, true, false, ◌&&◌, List, [], ◌∷◌, leb}
+use Rattle.std.specs.Prelude.{ℕ, ◌+◌, ◌-◌, ◌*◌, Bool, true, false, ◌&&◌, List, [], ◌∷◌, leb, Option, Some, None}
 use Rattle.text.specs.Decimal.{ZERO}
-use Rattle.text.specs.declared.Parsed.{Parsed}
-use Rattle.text.specs.declared.Parsed.TheVariants.{Number, Refused}
 
 -- `0` to `9`
 abbrev pub is_digit : ℕ → Bool
@@ -18,15 +16,15 @@ unfoldable pub value_from : ℕ → List ℕ → ℕ
 value_from v [] = v
 value_from v (b ∷ bs) = value_from (v * 10 + (b - ZERO)) bs
 
-abbrev pub parsed_by : Bool → ℕ → Parsed
-parsed_by true v = Number v
-parsed_by false v = Refused
+abbrev pub parsed_by : Bool → ℕ → Option ℕ
+parsed_by true v = Some v
+parsed_by false v = None
 
 -- v and the digits behind it are a number from `low` to `high`
-abbrev pub parsed_from : ℕ → List ℕ → ℕ → ℕ → Parsed
+unfoldable pub parsed_from : ℕ → List ℕ → ℕ → ℕ → Option ℕ
 parsed_from v s low high = parsed_by (all_digits s && (leb low (value_from v s) && leb (value_from v s) high)) (value_from v s)
 
 -- the text is one digit or more, and their number lies from `low` to `high`
-unfoldable pub number_within : List ℕ → ℕ → ℕ → Parsed
-number_within [] low high = Refused
+unfoldable pub number_within : List ℕ → ℕ → ℕ → Option ℕ
+number_within [] low high = None
 number_within (b ∷ bs) low high = parsed_from 0 (b ∷ bs) low high

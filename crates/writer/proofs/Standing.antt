@@ -6,7 +6,8 @@ use native.Mathlib.Nat.{add-zero}
 use native.Mathlib.Numerals.{add-one}
 use mathlib.Core.Path.{◌≡◌, refl, sym, ap, ◌∙◌}
 use mathlib.Core.Bool.{Bool, true, false, ◌&&◌, cond}
-use mathlib.Core.Option.{Option, none, some}
+use mathlib.Core.Option as maybe
+use Rattle.std.specs.Prelude.{Option, Some, None}
 use mathlib.Core.List.{List, [], ◌∷◌, ◌++◌, append_assoc}
 use lib.ListN.{length, get_or, take, drop, length-append, take-append-drop}
 use lib.Seq.{slice, take_all, take-length, drop-append-add, take_at, drop_at, drop-drop, get_or-drop, get_or_at, get_or-append-add}
@@ -246,15 +247,15 @@ id_join (b ∷ id) d e = go (ends_id b) (λ k. id_join id d k) e
 
 -- the head shows both
 pub parts_shown : (id : List ℕ) (desc : Option (List ℕ)) → good_id id ≡ true → PartsShown (head_from id desc) id desc
-parts_shown id none e =
+parts_shown id None e =
     let n : id_length id ≡ length id = eqb-true _ _ e in
     record { id_is = rw n (take-length id); desc_is = rw (n, le-ltb (length id) (length id) (omega arith)) }
-parts_shown id (some d) e =
+parts_shown id (Some d) e =
     let n : id_length (id ++ SPACE ∷ d) ≡ length id = id_join id d (eqb-true _ _ e) in
     let m : length id < length (id ++ SPACE ∷ d) = simp length-append (omega arith) in
     record {
       id_is = rw n (take_at id (SPACE ∷ d) (length id) refl);
-      desc_is = rw (n, lt-ltb (length id) (length (id ++ SPACE ∷ d)) m) (ap some (drop-append-add id (SPACE ∷ d) 1));
+      desc_is = rw (n, lt-ltb (length id) (length (id ++ SPACE ∷ d)) m) (ap maybe.some (drop-append-add id (SPACE ∷ d) 1));
     }
 
 -- what the test of the parts says
@@ -270,8 +271,8 @@ parts_facts id desc seq qual e =
     record { good = head desc q.1 q.0; shown = parts_shown id desc p.1 }
   where
     head : (d : Option (List ℕ)) → good_desc d ≡ true → good_fields id seq qual ≡ true → good_fields (head_from id d) seq qual ≡ true
-    head none k g = g
-    head (some d) k g =
+    head None k g = g
+    head (Some d) k g =
         let h : good_field (id ++ SPACE ∷ d) ≡ good_field id =
         field_good _ (whole_join id d (good_facts (fields id seq qual) g).head (field_facts d k)) ∙ sym (field_good id (good_facts (fields id seq qual) g).head) in
         rw h g

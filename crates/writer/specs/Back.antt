@@ -1,13 +1,12 @@
 -- What it is to read back what was written.
 -- Assumes nothing.
-use Rattle.std.specs.Prelude.{ℕ, ◌+◌, ◌≤◌, ◌≡◌, true, List, [], ◌∷◌, ◌++◌, length, take, drop}
-use Rattle.std.proofs.Math.Option.{Option}
+use Rattle.std.specs.Prelude.{ℕ, ◌+◌, ◌≤◌, ◌≡◌, true, List, [], ◌∷◌, ◌++◌, length, take, drop, Option, Some, None, Ok}
+use Rattle.std.proofs.Math.Option as maybe
 use Rattle.reading.specs.Answer.{Five, five, found, Told, told}
 use Rattle.reading.specs.Reading.{head_of, seq_of, qual_of, id_in, desc_in, reading}
 use Rattle.writer.specs.Bytes.{record_bytes, head_from}
 use Rattle.writer.specs.Fields.{good_fields}
 use Rattle.writer.specs.Promises.{WritesToChecked, WritesPartsChecked}
-use Rattle.writer.specs.declared.Written.TheVariants.{Wrote}
 
 -- the fields of a record
 pub record Fields : Type 0 where
@@ -59,10 +58,15 @@ pub record ReadBack (B : List ℕ) (W at L : ℕ) (f : Fields) : Type 0 where
   pub answers : reading B W at L ≡ told L at (found (placed at f)) ∷ reading B W (at + size_of f) (L + 4)
   pub shown : Shown B (placed at f) f
 
+-- a description as `desc_in` tells it
+abbrev pub told_desc : Option (List ℕ) → maybe.Option (List ℕ)
+told_desc None = maybe.none
+told_desc (Some desc) = maybe.some desc
+
 -- the head shows the id and the description, which is absent or there as it was given
 pub record PartsShown (head id : List ℕ) (desc : Option (List ℕ)) : Type 0 where
   pub id_is : id_in head ≡ id
-  pub desc_is : desc_in head ≡ desc
+  pub desc_is : desc_in head ≡ told_desc desc
 
 -- ---- several records, one after the other
 
@@ -89,7 +93,7 @@ AllShown B at (f ∷ fs) = Shown B (placed at f) f × AllShown B (at + size_of f
 -- calls of the checked writers one after the other, each accepted, from the place where the one before ended: they turn the output `out` into `after`
 pub data WroteAll : List ℕ → ℕ → List Fields → List ℕ → Type 0 where
   none : (out : List ℕ) (at : ℕ) → WroteAll out at [] out
-  to : {out mid after : List ℕ} {at n : ℕ} (f : Fields) {fs : List Fields} → WritesToChecked out at f.head f.seq f.qual (Wrote n) mid → WroteAll mid (at + n) fs after
+  to : {out mid after : List ℕ} {at n : ℕ} (f : Fields) {fs : List Fields} → WritesToChecked out at f.head f.seq f.qual (Ok n) mid → WroteAll mid (at + n) fs after
       → WroteAll out at (f ∷ fs) after
   parts : {out mid after : List ℕ} {at n : ℕ} (id : List ℕ) (desc : Option (List ℕ)) (seq qual : List ℕ) {fs : List Fields}
-      → WritesPartsChecked out at id desc seq qual (Wrote n) mid → WroteAll mid (at + n) fs after → WroteAll out at (fields (head_from id desc) seq qual ∷ fs) after
+      → WritesPartsChecked out at id desc seq qual (Ok n) mid → WroteAll mid (at + n) fs after → WroteAll out at (fields (head_from id desc) seq qual ∷ fs) after

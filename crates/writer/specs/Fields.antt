@@ -1,7 +1,6 @@
 -- Row 13: which fields a checked writer refuses.
 -- Assumes nothing.
-use Rattle.std.specs.Prelude.{ℕ, ◌-◌, Bool, true, ◌&&◌, not, List, length, eqb}
-use Rattle.std.proofs.Math.Option.{Option, none, some}
+use Rattle.std.specs.Prelude.{ℕ, ◌-◌, Bool, true, ◌&&◌, not, List, length, eqb, Option, Some, None}
 use Rattle.reading.specs.Bytes.{CR, byte_at, line_ends, is_empty, id_length}
 
 -- a field holds no LF and doesn't end in 13
@@ -18,8 +17,8 @@ good_id id = eqb (id_length id) (length id)
 
 -- a description, where it is given, is a field
 abbrev pub good_desc : Option (List ℕ) → Bool
-good_desc none = true
-good_desc (some desc) = good_field desc
+good_desc None = true
+good_desc (Some desc) = good_field desc
 
 -- the same of an id and a description given apart, and the id holds no space
 unfoldable pub good_parts : List ℕ → Option (List ℕ) → List ℕ → List ℕ → Bool

@@ -7,8 +7,8 @@ use Rattle.c_interface.proofs.fq_open.Goals as goal
 pub returns-then-state-lt-STATE : goal.returns-then-state-lt-STATE
 returns-then-state-lt-STATE c = open_short _ _ c.if-state-lt-STATE.true
 
-pub returns-in-Fresh : goal.returns-in-Fresh
-returns-in-Fresh c = open_fresh _ _ _ _ c.if-state-lt-STATE.false (sym c.open-o.ensures ∙ c.in-Fresh.is) c.pack.ensures
+pub returns-in-Ok : goal.returns-in-Ok
+returns-in-Ok c = open_fresh _ _ _ _ c.if-state-lt-STATE.false (sym c.in-Ok.ensures) c.pack.ensures
 
-pub returns-in-Refused : goal.returns-in-Refused
-returns-in-Refused c = open_refused _ _ _ c.if-state-lt-STATE.false (sym c.open-o.ensures ∙ c.in-Refused.is)
+pub returns-in-Err : goal.returns-in-Err
+returns-in-Err c = open_refused _ _ _ _ c.if-state-lt-STATE.false (sym c.in-Err.ensures) (c.from-in-Err.ensures ∙ c.from.ensures)

@@ -1,14 +1,14 @@
 -- A state that is lent, or numbers that are none (Calling).
 -- Assumes nothing.
-use mathlib.Core.Path.{sym, ◌∙◌}
+use mathlib.Core.Path.{sym}
 use Rattle.c_interface.proofs.Calling.{unpacked_room, position_some, position_none}
 use Rattle.c_interface.proofs.fq_position.Goals as goal
 
 pub put-requires : goal.put-requires
-put-requires c = (unpacked_room _ _ _ (sym c.unpack-u.ensures ∙ c.in-State.is)).1
+put-requires c = (unpacked_room _ _ _ (sym c.in-Some.ensures)).1
 
-pub returns-in-State : goal.returns-in-State
-returns-in-State c = position_some _ _ _ _ c.brief-t.result (sym c.unpack-u.ensures ∙ c.in-State.is) (c.brief-t.ensures ∙ simp (c.number.ensures, c.number-in-State.ensures, c.position-p.ensures)) c.put.ensures
+pub returns-in-Some : goal.returns-in-Some
+returns-in-Some c = rw (c.put.ensures.code, c.new.ensures) (position_some _ _ _ _ _ (sym c.in-Some.ensures) c.new.ensures c.put.ensures.stored)
 
-pub returns-in-Foreign : goal.returns-in-Foreign
-returns-in-Foreign c = position_none _ _ (sym c.unpack-u.ensures ∙ c.in-Foreign.is)
+pub returns-in-None : goal.returns-in-None
+returns-in-None c = position_none _ _ (sym c.in-None.ensures)

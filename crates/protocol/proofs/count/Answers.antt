@@ -1,23 +1,24 @@
 -- Each refusal is the outcome of its test; otherwise it is the run's tally, and the window is the run's.
 -- Assumes nothing.
 use native.Mathlib.Omega.{arith}
-use mathlib.Core.Path.{refl, sym, ap, ◌∙◌}
+use mathlib.Core.Path.{sym, ap, ◌∙◌}
+use Rattle.std.proofs.lemmas.Result.{err_from_is_err_and}
+use Rattle.std.specs.Prelude.{Ok}
 use Rattle.demands.proofs.Chunks.{open_is}
-use Rattle.protocol.specs.Outcome.{counted}
 use Rattle.protocol.proofs.Outcomes.{outcome_unopened, outcome_empty, outcome_long, outcome_counted}
 use Rattle.protocol.proofs.count.Goals as goal
 
-pub returns-then-chunk-eq0 : goal.returns-then-chunk-eq0
-returns-then-chunk-eq0 c = record { answer = outcome_empty _ _ _ _ c.open-opened.ensures _ c.in-Fresh.is (omega arith); bytes = refl }
+pub returns-in_err-fresh-clause-answer : goal.returns-in_err-fresh-clause-answer
+returns-in_err-fresh-clause-answer c = let p = err_from_is_err_and c.from_residual.result c.from_residual.ensures.1 in rw (p.1, p.2) (outcome_unopened _ _ _ _ c.open.ensures _ c.in_err-fresh.was)
 
-pub returns-then-input-gt-LIMIT : goal.returns-then-input-gt-LIMIT
-returns-then-input-gt-LIMIT c = record { answer = outcome_long _ _ _ _ c.open-opened.ensures _ c.in-Fresh.is c.if-chunk-eq0.false (omega arith); bytes = refl }
+pub returns-then-chunk-eq0-clause-answer : goal.returns-then-chunk-eq0-clause-answer
+returns-then-chunk-eq0-clause-answer c = outcome_empty _ _ _ _ c.open.ensures _ c.in_ok-fresh.was (omega arith)
 
-pub run-t-requires : goal.run-t-requires
-run-t-requires c = (open_is _ _ (sym c.open-opened.ensures ∙ c.in-Fresh.is), omega arith, omega arith)
+pub returns-then-input-gt-LIMIT-clause-answer : goal.returns-then-input-gt-LIMIT-clause-answer
+returns-then-input-gt-LIMIT-clause-answer c = outcome_long _ _ _ _ c.open.ensures _ c.in_ok-fresh.was c.if-chunk-eq0.false (omega arith)
 
-pub returns-in-Refused : goal.returns-in-Refused
-returns-in-Refused c = record { answer = outcome_unopened _ _ _ _ c.open-opened.ensures _ c.in-Refused.is; bytes = refl }
+pub run-requires : goal.run-requires
+run-requires c = (open_is _ _ (sym c.open.ensures ∙ c.in_ok-fresh.was), omega arith, omega arith)
 
-pub returns-else-input-gt-LIMIT : goal.returns-else-input-gt-LIMIT
-returns-else-input-gt-LIMIT c = record { answer = ap counted c.run-t.ensures.tally ∙ outcome_counted _ _ _ _ c.open-opened.ensures _ c.in-Fresh.is c.if-chunk-eq0.false (omega arith); bytes = c.run-t.ensures.bytes }
+pub returns-clause-answer : goal.returns-clause-answer
+returns-clause-answer c = ap Ok c.run.ensures.tally ∙ outcome_counted _ _ _ _ c.open.ensures _ c.in_ok-fresh.was c.if-chunk-eq0.false (omega arith)

@@ -8,10 +8,10 @@ pub loop-run-init : goal.loop-run-init
 loop-run-init c = (rw c.begin-run.ensures (begin_ready _ _ _ _), refl, refl, refl)
 
 pub loop-run-smaller : goal.loop-run-smaller
-loop-run-smaller c = rw c.step-run.ensures (step_less _ _ c.loop-run-test.true (c.loop-run.invariant.0.ahead c.loop-run-test.true))
+loop-run-smaller c = rw c.step-run.ensures (step_less _ _ _ c.in-Some.is (c.loop-run.invariant.0.ahead _ c.in-Some.is))
 
 pub loop-run-preserved : goal.loop-run-preserved
-loop-run-preserved c = let m = c.loop-run-test.true in let f = c.loop-run.invariant.0 in (rw c.step-run.ensures (step_ready _ _ _ m f), rw c.step-run.ensures (step_end _ _ m (f.ahead m)) ∙ c.loop-run.invariant.1, turn_entries _ _ _ _ m (f.ahead m) c.step-run.ensures ∙ c.loop-run.invariant.2, length-set _ _ _ ∙ c.loop-run.invariant.3)
+loop-run-preserved c = let m = c.in-Some.is in let f = c.loop-run.invariant.0 in (rw c.step-run.ensures (step_ready _ _ _ _ m f), rw c.step-run.ensures (step_end _ _ _ m (f.ahead _ m)) ∙ c.loop-run.invariant.1, turn_entries _ _ _ _ _ m (f.ahead _ m) c.step-run.ensures ∙ c.loop-run.invariant.2, length-set _ _ _ ∙ c.loop-run.invariant.3)
 
 pub returns : goal.returns
-returns c = (end_out _ _ c.loop-run-test.false ∙ c.loop-run.invariant.1 ∙ rw c.begin-run.ensures (begin_end _ _ _ _), end_entries _ _ _ _ c.loop-run-test.false ∙ c.loop-run.invariant.2 ∙ begin_entries _ _ _ _ _ c.begin-run.ensures)
+returns c = (end_out _ _ c.in_default.is ∙ c.loop-run.invariant.1 ∙ rw c.begin-run.ensures (begin_end _ _ _ _), end_entries _ _ _ _ c.in_default.is ∙ c.loop-run.invariant.2 ∙ begin_entries _ _ _ _ _ c.begin-run.ensures)

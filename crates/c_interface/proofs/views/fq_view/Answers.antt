@@ -3,10 +3,8 @@
 use Rattle.c_interface.proofs.Showing.{view_short, view_done}
 use Rattle.c_interface.proofs.views.fq_view.Goals as goal
 
--- src/views.rt:87:9
 pub returns-then-values-lt-VALUES : goal.returns-then-values-lt-VALUES
 returns-then-values-lt-VALUES c = view_short _ _ c.if-values-lt-VALUES.true
 
--- src/views.rt:73:1
 pub returns : goal.returns
-returns c = view_done _ _ _ _ c.if-values-lt-VALUES.false c.view_told-t.ensures c.put.ensures
+returns c = rw c.put.ensures.code (view_done _ _ _ _ c.if-values-lt-VALUES.false c.view_told.ensures c.put.ensures.stored)

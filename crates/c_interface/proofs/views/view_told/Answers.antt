@@ -1,37 +1,73 @@
 -- One arm for each view: its place and its length (Showing).
 -- Assumes nothing.
-use mathlib.Core.Path.{sym, ◌∙◌}
-use borrow.Author.Tests.{eq-eqb, ne_eqb}
+use mathlib.Core.Path.{◌≡◌, refl, sym, ap, ◌∙◌}
+use lib.ListN.{length}
+use borrow.Author.Tests.{ne_eqb}
+use native.Mathlib.Omega.{arith}
+use mathlib.Core.List.{List}
+use Prim.Native.Nat.{ℕ, ◌+◌, ◌-◌}
+use Rattle.reading.specs.Bytes.{id_length}
+use Rattle.record.specs.Check.{five_of}
+use Rattle.record.specs.Views.{head_view}
+use Rattle.record.proofs.Views.{fits_asked}
 use Rattle.c_interface.specs.Shown.{view_told}
-use Rattle.c_interface.proofs.Showing.{shown_told, seq_from, qual_from, id_from}
+use Rattle.c_interface.proofs.Showing.{shown_told, placed_some, head_some, seq_from, qual_from, id_from, desc_some, desc_behind, desc_inside, view_empty, view_absent}
 use Rattle.c_interface.proofs.views.view_told.Goals as goal
 
--- src/views.rt:51:9
-pub returns-then-which-eq0 : goal.returns-then-which-eq0
-unfolding view_told
-returns-then-which-eq0 c = rw (eq-eqb _ _ c.if-which-eq0.true) (shown_told _ c.brief.ensures c.head_from.ensures c.head-s.ensures.bytes)
+pub returns-then-which-lt4 : goal.returns-then-which-lt4
+returns-then-which-lt4 c = c.part.ensures ∙ view_empty _ _ (sym c.fits.ensures ∙ c.if-not-fits.true) _ c.if-which-lt4.true
 
--- src/views.rt:55:9
-pub returns-then-which-eq1 : goal.returns-then-which-eq1
-unfolding view_told
-returns-then-which-eq1 c = rw (ne_eqb _ _ c.if-which-eq0.false, eq-eqb _ _ c.if-which-eq1.true) (shown_told _ c.brief-then-which-eq1.ensures (c.from_of.ensures ∙ seq_from _ _) c.seq-s.ensures.bytes)
+pub returns-else-which-lt4 : goal.returns-else-which-lt4
+returns-else-which-lt4 c = c.new-absent.ensures ∙ view_absent _ _ (sym c.fits.ensures ∙ c.if-not-fits.true) _ c.if-which-lt4.false
 
--- src/views.rt:59:9
-pub returns-then-which-eq2 : goal.returns-then-which-eq2
-unfolding view_told
-returns-then-which-eq2 c = rw (ne_eqb _ _ c.if-which-eq0.false, ne_eqb _ _ c.if-which-eq1.false, eq-eqb _ _ c.if-which-eq2.true) (shown_told _ c.brief-then-which-eq2.ensures (c.from_of-then-which-eq2.ensures ∙ qual_from _ _) c.qual-s.ensures.bytes)
+pub overflow_add-r : goal.overflow_add-r
+overflow_add-r c = let f = fits_asked _ _ c.fits.ensures c.if-not-fits.false in omega arith
 
--- src/views.rt:63:9
-pub returns-then-which-eq3 : goal.returns-then-which-eq3
-unfolding view_told
-returns-then-which-eq3 c = rw (ne_eqb _ _ c.if-which-eq0.false, ne_eqb _ _ c.if-which-eq1.false, ne_eqb _ _ c.if-which-eq2.false, eq-eqb _ _ c.if-which-eq3.true) (shown_told _ c.brief-then-which-eq3.ensures (c.head_from-then-which-eq3.ensures ∙ id_from _ _) c.id_bytes-s.ensures.bytes)
+pub overflow_add-r-in-3 : goal.overflow_add-r-in-3
+overflow_add-r-in-3 c = let f = fits_asked _ _ c.fits.ensures c.if-not-fits.false in omega arith
 
--- src/views.rt:67:9
-pub returns-then-which-has_desc : goal.returns-then-which-has_desc
-unfolding view_told
-returns-then-which-has_desc c = rw (ne_eqb _ _ c.if-which-eq0.false, ne_eqb _ _ c.if-which-eq1.false, ne_eqb _ _ c.if-which-eq2.false, ne_eqb _ _ c.if-which-eq3.false, sym c.has_desc.ensures, c.if-which-has_desc.true) (shown_told _ c.brief-then-which-has_desc.ensures c.desc_from.ensures c.desc_bytes-s.ensures.bytes)
+pub overflow_add-r-in-Some : goal.overflow_add-r-in-Some
+overflow_add-r-in-Some c = let f = fits_asked _ _ c.fits.ensures c.if-not-fits.false in omega arith
 
--- src/views.rt:46:1
-pub returns : goal.returns
+pub overflow_sub-head : goal.overflow_sub-head
+overflow_sub-head c = let d = desc_behind _ _ c.in-Some.ensures.given refl in omega (arith, ap (λ (s : List ℕ). length s) c.in-Some.ensures.shown.bytes, ap (λ (s : List ℕ). length s) c.head-in-Some.ensures.bytes)
+
+pub overflow_add-r-in-Some-2 : goal.overflow_add-r-in-Some-2
+overflow_add-r-in-Some-2 c =
+    let d = desc_behind _ _ c.in-Some.ensures.given refl in
+    let i = desc_inside _ _ c.in-Some.ensures.given refl in
+    omega (arith, head_some _ _ c.fits.ensures c.if-not-fits.false, ap (λ (s : List ℕ). length s) c.in-Some.ensures.shown.bytes, ap (λ (s : List ℕ). length s) c.head-in-Some.ensures.bytes)
+
+pub returns-in-0 : goal.returns-in-0
 unfolding view_told
-returns c = rw (ne_eqb _ _ c.if-which-eq0.false, ne_eqb _ _ c.if-which-eq1.false, ne_eqb _ _ c.if-which-eq2.false, ne_eqb _ _ c.if-which-eq3.false, sym c.has_desc.ensures, c.if-which-has_desc.false) c.brief-2.ensures
+returns-in-0 c = rw c.in-0.is (shown_told _ c.part-in-0.ensures (head_some _ _ c.fits.ensures c.if-not-fits.false) c.head.ensures.bytes)
+
+pub returns-in-1 : goal.returns-in-1
+unfolding view_told
+returns-in-1 c = rw c.in-1.is (shown_told _ c.part-in-1.ensures (placed_some _ _ c.fits.ensures _ c.if-not-fits.false ∙ seq_from _ _) c.seq.ensures.bytes)
+
+pub returns-in-2 : goal.returns-in-2
+unfolding view_told
+returns-in-2 c = rw c.in-2.is (shown_told _ c.part-in-2.ensures (placed_some _ _ c.fits.ensures _ c.if-not-fits.false ∙ qual_from _ _) c.qual.ensures.bytes)
+
+pub returns-in-3 : goal.returns-in-3
+unfolding view_told
+returns-in-3 c = rw c.in-3.is (shown_told _ c.part-in-3.ensures (head_some _ _ c.fits.ensures c.if-not-fits.false ∙ id_from _ _) c.id_bytes.ensures.bytes)
+
+pub returns-in-Some : goal.returns-in-Some
+unfolding view_told
+returns-in-Some c =
+    let d = desc_behind _ _ c.in-Some.ensures.given refl in
+    let p : c.args.r.start + 1 + (length c.head-in-Some.result.now - length c.in-Some.desc.now) ≡ (head_view c.args.window.now (five_of c.args.r)).from + (id_length (head_view c.args.window.now (five_of c.args.r)).bytes + 1) =
+    omega (arith, head_some _ _ c.fits.ensures c.if-not-fits.false, ap (λ (s : List ℕ). length s) c.in-Some.ensures.shown.bytes, ap (λ (s : List ℕ). length s) c.head-in-Some.ensures.bytes) in
+    rw (c.in-4.is, ← c.in-Some.ensures.given) (shown_told _ c.part-in-Some.ensures (p ∙ desc_some _ _ c.in-Some.ensures.given refl) c.in-Some.ensures.shown.bytes)
+
+pub returns-in-None : goal.returns-in-None
+unfolding view_told
+returns-in-None c = rw (c.in-4.is, sym c.in-None.ensures.given) c.new-absent.ensures
+
+pub returns-in_default : goal.returns-in_default
+unfolding view_told
+returns-in_default c =
+    rw (ne_eqb c.args.which 0 (omega arith), ne_eqb c.args.which 1 (omega arith), ne_eqb c.args.which 2 (omega arith), ne_eqb c.args.which 3 (omega arith), ne_eqb c.args.which 4 (omega arith))
+    c.new-absent.ensures

@@ -1,12 +1,8 @@
 -- Room for the values or none; then the writer's own promise (Writing).
 -- Assumes nothing.
-use Rattle.c_interface.proofs.Writing.{write_short, write_done}
+use Rattle.std.proofs.Common.{rules}
+use Rattle.c_interface.proofs.Writing.{write_is}
 use Rattle.c_interface.proofs.writes.fq_write_to.Goals as goal
 
--- src/writes.rt:36:9
-pub returns-then-values-lt-VALUES : goal.returns-then-values-lt-VALUES
-returns-then-values-lt-VALUES c = write_short _ _ _ _ _ c.if-values-lt-VALUES.true
-
--- src/writes.rt:24:1
 pub returns : goal.returns
-returns c = write_done _ _ _ _ _ _ _ _ _ c.if-values-lt-VALUES.false c.write_to-w.ensures c.written_told-t.ensures c.put.ensures
+returns c = write_is _ _ _ _ _ _ _ _ c.write.ensures.short (λ h. let x = c.write.ensures.written h in (x.0, search rules, x.2, x.3))

@@ -5,13 +5,10 @@ use Rattle.reader.proofs.Feeding.{taking_far, taking_move, taking_stay}
 use Rattle.reader.proofs.Reader.taking.Goals as goal
 
 pub returns-then-byte-held : goal.returns-then-byte-held
-returns-then-byte-held c = taking_far _ _ _ c.least-t.ensures (omega arith)
-
-pub with_fill-f-requires : goal.with_fill-f-requires
-with_fill-f-requires c = rw c.to_front-m.ensures (omega arith)
+returns-then-byte-held c = taking_far _ _ _ c.min-t.ensures (omega arith)
 
 pub returns-then-w-fill : goal.returns-then-w-fill
-returns-then-w-fill c = rw (c.with_fill-f.ensures, c.to_front-m.ensures) (taking_move _ _ _ c.least-t.ensures (omega arith) c.if-w-fill.true)
+returns-then-w-fill c = rw (c.with_fill.ensures, c.to_front-m.ensures) (taking_move _ _ _ c.min-t.ensures (omega arith) c.if-w-fill.true)
 
 pub returns-else-w-fill : goal.returns-else-w-fill
-returns-else-w-fill c = rw c.with_fill-f-else-w-fill.ensures (taking_stay _ _ _ c.least-t.ensures (omega arith) c.if-w-fill.false)
+returns-else-w-fill c = rw c.with_fill-else-w-fill.ensures (taking_stay _ _ _ c.min-t.ensures (omega arith) c.if-w-fill.false)

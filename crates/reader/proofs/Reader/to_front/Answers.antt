@@ -3,4 +3,4 @@
 use Rattle.reader.proofs.Reader.to_front.Goals as goal
 
 pub returns : goal.returns
-returns c = simp (c.notes_from-notes.ensures, c.less.ensures, c.less-2.ensures)
+returns c = simp (c.notes_from.ensures, c.saturating_sub.ensures, c.saturating_sub-2.ensures)

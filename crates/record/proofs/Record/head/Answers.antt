@@ -11,11 +11,11 @@ pub returns-then-not-fits : goal.returns-then-not-fits
 unfolding head_view
 returns-then-not-fits c = hidden _ _ c.fits.ensures c.if-not-fits.true refl refl
 
-pub overflow_add-from : goal.overflow_add-from
-overflow_add-from c = let f = fits_asked _ _ c.fits.ensures c.if-not-fits.false in omega arith
+pub overflow_add-self : goal.overflow_add-self
+overflow_add-self c = let f = fits_asked _ _ c.fits.ensures c.if-not-fits.false in omega arith
 
-pub overflow_sub-to : goal.overflow_sub-to
-overflow_sub-to c = let f = fits_asked _ _ c.fits.ensures c.if-not-fits.false in omega arith
+pub overflow_sub-self : goal.overflow_sub-self
+overflow_sub-self c = let f = fits_asked _ _ c.fits.ensures c.if-not-fits.false in omega arith
 
 pub returns : goal.returns
 unfolding head_view head_of

@@ -11,8 +11,8 @@ pub returns-then-not-fits : goal.returns-then-not-fits
 unfolding seq_view
 returns-then-not-fits c = hidden _ _ c.fits.ensures c.if-not-fits.true refl refl
 
-pub overflow_sub-to : goal.overflow_sub-to
-overflow_sub-to c = let f = fits_asked _ _ c.fits.ensures c.if-not-fits.false in omega arith
+pub overflow_sub-self : goal.overflow_sub-self
+overflow_sub-self c = let f = fits_asked _ _ c.fits.ensures c.if-not-fits.false in omega arith
 
 pub returns : goal.returns
 unfolding seq_view seq_of

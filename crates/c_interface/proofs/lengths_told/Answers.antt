@@ -1,6 +1,0 @@
--- What is told, by cases of the answer.
--- Assumes nothing.
-use Rattle.c_interface.proofs.lengths_told.Goals as goal
-
-pub returns : goal.returns
-returns c = simp (c.number.ensures, c.bounds_of-i.ensures)
