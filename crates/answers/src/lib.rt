@@ -30,6 +30,7 @@ fn front_of(state: Reader) -> u64
     byte.0.saturating_sub(state.start as u64)
 }
 
+// A line and the offset of the window's first byte go to two functions only, so that a struct is no plainer.
 fn put_record(
     out: &mut [u8],
     at: usize,
@@ -50,7 +51,7 @@ fn put_record(
     put_line(out, at, b"record", &values)
 }
 
-// An error's line: its values, and the id's range where there is one.
+// An error's line: its values, and the id's range where there is one. Six values are the most: fixed memory, no heap.
 fn put_error(
     out: &mut [u8],
     at: usize,

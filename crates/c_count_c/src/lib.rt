@@ -1,4 +1,4 @@
-// The export of the count, for C and Rust: what the benchmark calls.
+// The export of the count, for C and Rust: what the benchmark calls. For C it stands beside the function: a static library has its exports alone.
 // In C: uint64_t fq_count(const uint8_t *input, size_t input_length, uint8_t *window, size_t window_length, size_t chunk);
 #![tactic(auto)]
 

@@ -13,6 +13,7 @@ use borrow.Author.Tests.{ltb-false, lt-ltb, le-ltb}
 use Rattle.std.specs.Prelude.{Option, Some, None, Result, Ok, Err, IfSome, IfNone}
 use Rattle.record.specs.declared.Noted.{Noted}
 use Rattle.record.specs.declared.Noted.TheVariants.{Zero, One, Two, Three, Four}
+use Rattle.reader.specs.declared.Outcome.{Outcome}
 use Rattle.reader.specs.declared.Reader.{Reader}
 use Rattle.reader.specs.declared.Refusal.{Refusal}
 use Rattle.reader.specs.State.{number_of, open_of}
@@ -65,8 +66,8 @@ module _ (st v : List ℕ) (st' v' : List ℕ) (r : ℕ) (P : Reader → Type 0)
   -- a call by what is known of it at a state that is lent, and at numbers that are none
   pub called_is : {A : Type 0} (after : Reader → Reader) (tell : A → Told) (answer : Reader → Result A Refusal)
       → IfSome (unpacked_of st (length v)) P → IfNone (unpacked_of st (length v)) (Leaves r st' v' (foreign_of st v))
-      → ((s : Reader) → P s → (x : Reader × Result A Refusal) × (t : Told) × (x.0 ≡ after s) × (x.1 ≡ answer s)
-      × Tells (λ a u. u ≡ tell a) (λ e n. n ≡ number_of e) x.1 t × Leaves r st' v' (left_of st v x.0 t))
+      → ((s : Reader) → P s → (x : Outcome A) × (t : Told) × (x.state ≡ after s) × (x.answer ≡ answer s)
+      × Tells (λ a u. u ≡ tell a) (λ e n. n ≡ number_of e) x.answer t × Leaves r st' v' (left_of st v x.state t))
       → Leaves r st' v' (called st v after (λ s. told_of tell (answer s)))
   unfolding called
   called_is after tell answer some none known = go (unpacked_of st (length v)) some none
@@ -75,7 +76,7 @@ module _ (st v : List ℕ) (st' v' : List ℕ) (r : ℕ) (P : Reader → Type 0)
       go None some none = none
       go (Some s) some none =
           let k = known s some in
-          let e = tells_is tell number_of k.0.1 k.1 k.4 in
+          let e = tells_is tell number_of k.0.answer k.1 k.4 in
           rw (← k.2, ← k.3, ← e) k.5
 
 module _ (st v m m' : List ℕ) (P : Reader → Type 0) where

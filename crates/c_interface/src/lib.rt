@@ -10,10 +10,11 @@ ghost use Rattle.std.specs.Borrow.{MutBor};
 ghost use Rattle.std.proofs.lemmas.List.Edits.{sets};
 ghost use Rattle.c_interface.specs.declared.Told.{Told};
 ghost use Rattle.c_interface.specs.Packed.{places_of, numbers_of, notes_in, unpacked_of};
-ghost use Rattle.c_interface.specs.Told.{telling, bounds_of};
+ghost use Rattle.c_interface.specs.Told.{telling, bounds_of, Tells};
+ghost use Rattle.reader.specs.State.{number_of};
 ghost use Rattle.c_interface.specs.Calls.{left_of, foreign_of, Leaves, Begins, open_call, next_call, feed_call, feed_window, finish_call, seek_call, set_call, set_table, position_call};
 
-use reader::{Answer, Byte, Line, Place, Position, Reader};
+use reader::{Answer, Byte, Line, Outcome, Place, Position, Reader};
 use record::{Noted, Span};
 use sets::Reply;
 
@@ -23,7 +24,7 @@ pub const STATE: usize = 14;
 // How many numbers are the values of an answer.
 pub const VALUES: usize = 6;
 
-// The codes but for the refusals', as c_interface.h has them.
+// The codes, as c_interface.h has them; of the refusals' only that of a foreign state.
 pub const DONE: usize = 0;
 
 pub const FOREIGN: usize = 2;
@@ -287,7 +288,7 @@ impl<A: Into<Told>, R: Into<u8>> From<Result<A, R>> for Told {
 }
 
 // A call on the state that is lent: the state and the values after it, and its code. Numbers that are no state are refused.
-fn call_on<M, A: Into<Told>, F: FnOnce(Reader, &mut [M]) -> (Reader, A)>(
+fn call_on<M, A: Into<Told>, F: FnOnce(Reader, &mut [M]) -> Outcome<A>>(
     state: &mut [usize],
     values: &mut [usize],
     lent: &mut [M],
@@ -297,23 +298,22 @@ fn call_on<M, A: Into<Told>, F: FnOnce(Reader, &mut [M]) -> (Reader, A)>(
     ensures called { IfSome (unpacked_of state.old (length values.old))
         (λ s. (p : MutBor (List M)) × (q : MutBor (List M)) × (x : _) × (t : Told)
         × F.post call s p x q × (p.now ≡ lent.old) × (q.now ≡ lent.new)
-        × A.converts x.1 t × Leaves result state.new values.new (left_of state.old values.old x.0 t)) }
+        × Tells A.converts (λ e n. n ≡ number_of e) x.answer t × Leaves result state.new values.new (left_of state.old values.old x.state t)) }
     ensures foreign { IfNone (unpacked_of state.old (length values.old)) (Leaves result state.new values.new (foreign_of state.old values.old)) }
     ensures untouched { IfNone (unpacked_of state.old (length values.old)) (lent.new ≡ lent.old) }
 {
     match unpack(state, values.len()) {
         Some(reader) => {
-            let (after, answer) = call(reader, lent);
-            pack(state, after);
-            let told: Told = answer.into();
-            told.put(values)
+            let outcome = call(reader, lent);
+            pack(state, outcome.state);
+            Told::from(outcome.answer).put(values)
         }
         None => FOREIGN,
     }
 }
 
 // The same for a call that is lent nothing to write.
-fn call<A: Into<Told>, F: FnOnce(Reader) -> (Reader, A)>(
+fn call<A: Into<Told>, F: FnOnce(Reader) -> Outcome<A>>(
     state: &mut [usize],
     values: &mut [usize],
     call: F,
@@ -321,7 +321,7 @@ fn call<A: Into<Told>, F: FnOnce(Reader) -> (Reader, A)>(
     requires { F.IsAlwaysCallable call }
     ensures called { IfSome (unpacked_of state.old (length values.old))
         (λ s. (x : _) × (t : Told) × F.post call s x
-        × A.converts x.1 t × Leaves result state.new values.new (left_of state.old values.old x.0 t)) }
+        × Tells A.converts (λ e n. n ≡ number_of e) x.answer t × Leaves result state.new values.new (left_of state.old values.old x.state t)) }
     ensures foreign { IfNone (unpacked_of state.old (length values.old)) (Leaves result state.new values.new (foreign_of state.old values.old)) }
 {
     let mut nothing: [u8; 0] = [];
@@ -357,30 +357,26 @@ pub fn fq_feed(state: &mut [usize], values: &mut [usize], window: &mut [u8], chu
     ensures answer { Leaves result state.new values.new (feed_call state.old values.old (length window.old) (length chunk.now)) }
     ensures bytes { window.new ≡ feed_window state.old values.old window.old chunk.now }
 {
-    call_on(state, values, window, |reader, window| {
-        let fed = reader.feed(window, chunk);
-        (fed.state, fed.answer)
-    })
+    call_on(
+        state,
+        values,
+        window,
+        |reader, window| reader.feed(window, chunk),
+    )
 }
 
 // Notes the end of the input.
 pub fn fq_finish(state: &mut [usize], values: &mut [usize], window: &[u8]) -> usize
     ensures { Leaves result state.new values.new (finish_call state.old values.old (length window.now)) }
 {
-    call(state, values, |reader| {
-        let finished = reader.finish(window);
-        (finished.state, finished.answer)
-    })
+    call(state, values, |reader| reader.finish(window))
 }
 
 // The next answer.
 pub fn fq_next(state: &mut [usize], values: &mut [usize], window: &[u8]) -> usize
     ensures { Leaves result state.new values.new (next_call state.old values.old window.now) }
 {
-    call(state, values, |reader| {
-        let next = reader.next(window);
-        (next.state, next.answer)
-    })
+    call(state, values, |reader| reader.next(window))
 }
 
 // To another line and byte; with FEED_FROM the value is the byte to feed from.
@@ -397,10 +393,7 @@ pub fn fq_seek(
         line: Line(line),
         byte: Byte(byte),
     };
-    call(state, values, |reader| {
-        let moved = reader.seek(window, to);
-        (moved.state, moved.answer)
-    })
+    call(state, values, |reader| reader.seek(window, to))
 }
 
 // The position: its line and its byte.
@@ -428,8 +421,7 @@ pub fn fq_read_record_set(
     ensures numbers { table.new ≡ set_table state.old values.old window.now (length table.old / 5) table.old }
 {
     call_on(state, values, table, |reader, table| {
-        let listed = sets::read_record_set(reader, window, table);
-        (listed.state, listed.answer)
+        sets::read_record_set(reader, window, table)
     })
 }
 
@@ -445,7 +437,6 @@ pub fn fq_read_record_set_exact(
     ensures numbers { table.new ≡ set_table state.old values.old window.now wanted table.old }
 {
     call_on(state, values, table, |reader, table| {
-        let listed = sets::read_record_set_exact(reader, window, table, wanted);
-        (listed.state, listed.answer)
+        sets::read_record_set_exact(reader, window, table, wanted)
     })
 }

@@ -37,7 +37,7 @@ fn view_told(which: usize, window: &[u8], r: Record) -> Told
     }
 }
 
-// The offset and the length of a view, of a record by its five numbers.
+// The offset and the length of a view, of a record by its five numbers: C hands them one by one, and the view by a number.
 pub fn fq_view(
     values: &mut [usize],
     window: &[u8],

@@ -48,7 +48,7 @@ pub fn fq_write_to(
     )
 }
 
-// The same with a head of an id, and of a space and a description where one is given.
+// The same with a head of an id, and of a space and a description where one is given: C hands bytes and whether they are given.
 pub fn fq_write_parts(
     values: &mut [usize],
     out: &mut [u8],
@@ -68,7 +68,7 @@ pub fn fq_write_parts(
     )
 }
 
-// The window's bytes from a record's start to its end, and LF.
+// The window's bytes from a record's start to its end, and LF. C hands the five numbers one by one.
 pub fn fq_write_unchanged(
     values: &mut [usize],
     out: &mut [u8],

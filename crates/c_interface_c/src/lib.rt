@@ -1,5 +1,5 @@
 // The exports of the library for C and Rust: each calls the function of its name in c_interface, with the same promise.
-// crates/c_interface/c_interface.h declares them.
+// crates/c_interface/c_interface.h declares them. They stand beside those functions for C: a static library has its exports alone, and an export is not generic.
 #![tactic(auto)]
 
 ghost use Rattle.std.specs.Prelude.{◌≡◌, ◌/◌, length};

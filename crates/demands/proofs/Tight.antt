@@ -1,6 +1,6 @@
 -- TIGHTNESS: two answers that one promise allows are equal, one statement for each public function of lines, record and reader.
 -- (The writers' are in writer/proofs/Answers, the set calls' in sets/proofs.) Assumes nothing.
-use Prim.Native.Nat.{ℕ}
+use Prim.Native.Nat.{min, ◌-◌, ℕ}
 use native.Mathlib.Omega.{arith}
 use mathlib.Core.Path.{◌≡◌, sym, ◌∙◌}
 use mathlib.Core.List.{List}
@@ -33,6 +33,13 @@ one z x y e f = e ∙ sym f
 
 pub find_byte_one : (s : List ℕ) (byte : ℕ) → One (position (λ b. b == byte) s)
 find_byte_one s byte = one (position (λ b. b == byte) s)
+
+-- the smaller of two numbers, and their difference or 0, as std gives them
+pub least_one : (a b : ℕ) → One (min a b)
+least_one a b = one (min a b)
+
+pub less_one : (a b : ℕ) → One (a - b)
+less_one a b = one (a - b)
 
 pub find_line_one : (s : List ℕ) (from : ℕ) → One (line_from s from)
 find_line_one s from = one (line_from s from)

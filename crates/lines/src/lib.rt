@@ -49,5 +49,6 @@ pub fn move_front(window: &mut [u8], start: usize, fill: usize)
     ensures { window.new ≡ moved_front window.old start fill }
 {
     let end = fill.min(window.len());
-    window.copy_within(start.min(end)..end, 0);
+    let from = start.min(end);
+    window.copy_within(from..end, 0);
 }

@@ -1,7 +1,7 @@
 // Whether a refused call left the state and the window as they were.
 use reader::Reader;
 
-// A state, and a copy of a window of at most 64 bytes, with zeros behind it.
+// A state, and a copy of a window of at most 64 bytes, with zeros behind it: fixed memory, no heap.
 #[derive(Clone, Copy, PartialEq, Eq)]
 pub struct Held {
     state: Reader,

@@ -19,7 +19,7 @@ struct Run<'a, 'w, P> {
     reader: Reader,
 }
 
-// An example in chunks of 1, 2, 3 and 64 bytes, on one window: the bytes that a run leaves there must not matter to the next.
+// An example in chunks of 1, 2, 3 and 64 bytes, on one window in fixed memory: the bytes that a run leaves there must not matter to the next.
 pub fn example<P: Print>(rt: &P, name: &str, size: usize, input: &[u8])
     requires { size ≤ 64 }
 {
@@ -58,6 +58,7 @@ impl<P: Print> Run<'_, '_, P> {
         telling::text(self.rt, format_args!("{name} has no closing answer\n"));
     }
 
+    // The programs have a turn each: what is brought and told, and when a run ends, is their own, and the `match` is all that they share.
     // Brings the input that is asked for, or tells an answer. Only a record leaves the reading open.
     fn turn(&mut self) -> ControlFlow<()> {
         let next = self.reader.next(self.window);

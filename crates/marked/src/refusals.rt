@@ -1,4 +1,4 @@
-// Refusals 1 to 5 of document 01 at their edges, on a window of 32 bytes.
+// Refusals 1 to 5 of document 01 at their edges, on a window of 32 bytes in fixed memory, with no heap.
 use crate::calls::Calls;
 use crate::{calls, telling};
 use reader::{Byte, Line, Position, Reader};

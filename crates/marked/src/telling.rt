@@ -3,6 +3,7 @@ use reader::{Answer, Byte, Reader, Refusal};
 use record::{Record, Span};
 use std::fmt::Display;
 
+// Each test program tells answers in words of its own, which a shared telling could not say.
 // A write that fails is let go: what it leaves out is missing where the output is compared.
 pub fn text(rt: &impl Print, told: impl Display + Drop) {
     let _ = rt.print(told);

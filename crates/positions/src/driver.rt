@@ -6,7 +6,7 @@ use reader::{Answer, Reader};
 use std::io::Read;
 use std::ops::ControlFlow;
 
-// The most bytes of a window, of a chunk and of gathered output.
+// The most bytes of a window, of a chunk and of gathered output: fixed memory, no heap.
 const LARGEST: usize = 65536;
 
 #[derive(Drop)]
@@ -48,6 +48,7 @@ impl<P: Print + Eprint, R: Read> Run<'_, P, R> {
         }
     }
 
+    // The programs have a turn each: what is brought and told, and when a run ends, is their own, and the `match` is all that they share.
     // One answer: the input that it asks for, or its line. Behind the closing one stands the position, and all is written.
     fn turn(&mut self) -> ControlFlow<()> {
         let next = self.reader.next(self.window);

@@ -2,7 +2,7 @@
 use std::io;
 use std::io::Read;
 
-// The chunk's bytes from `from` up to `to` are not taken yet.
+// The chunk's bytes from `from` up to `to` are not taken yet: fixed memory, since a buffered reader would take a heap.
 #[derive(Drop)]
 pub struct Input<'a, R> {
     stdin: &'a mut R,

@@ -30,7 +30,7 @@ fn sizes(rt: &impl Env) -> Option<(u64, u64)> {
     Some((window, chunk))
 }
 
-// The argument's number, or the default where it is left out.
+// The argument's number, or the default where it is left out. A word has fixed memory, no heap.
 fn argument(rt: &impl Env, i: usize, low: u64, default: u64) -> Option<u64> {
     let mut word = [0u8; 4096];
     match rt.arg(i, &mut word) {

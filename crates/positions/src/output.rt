@@ -7,6 +7,7 @@ use writer::Refusal;
 // More than any line takes: the longest has a word, and six numbers of 20 digits at most.
 const LINE: usize = 256;
 
+// Lines in fixed memory, since a buffered writer would take a heap.
 #[derive(Drop)]
 pub struct Output<'a, P> {
     rt: &'a P,

@@ -6,7 +6,7 @@ ghost use Rattle.std.specs.Prelude.{◌≡◌, ◌≤◌, ◌<◌, length};
 ghost use Rattle.reading.specs.Reading.{reading};
 ghost use Rattle.reader.specs.State.{most_bytes, fresh_of};
 ghost use Rattle.protocol.specs.Tallies.{tally_of};
-ghost use Rattle.protocol.specs.Turns.{kind_of, kind_in, supplied_of, supplied_window, window_after};
+ghost use Rattle.protocol.specs.Turns.{kind_of, supplied_of, supplied_window, window_after};
 ghost use Rattle.protocol.specs.Outcome.{tallied_of, outcome_of, outcome, Leaves};
 
 use reader::{Answer, Reader, Refusal};
@@ -19,7 +19,7 @@ pub struct Tally {
     pub state: Reader,
 }
 
-// The state after a request was answered, and how much of the input is then taken.
+// The state after a request was answered, and how much of the input is then taken: `supplied_of` counts it so.
 #[derive(Clone, Copy)]
 struct Supplied {
     state: Reader,
@@ -38,23 +38,15 @@ fn kind_of(answer: Result<Answer, Refusal>) -> Kind
     ensures { result ≡ kind_of answer }
 {
     match answer {
-        Ok(a) => kind_in(a),
-        Err(_) => Kind::Closing,
-    }
-}
-
-fn kind_in(answer: Answer) -> Kind
-    ensures { result ≡ kind_in answer }
-{
-    match answer {
-        Answer::Record(_, _) => Kind::Record,
-        Answer::More => Kind::Request,
-        Answer::WindowLimit(_, _) => Kind::Closing,
-        Answer::InvalidStart(_, _) => Kind::Closing,
-        Answer::InvalidSeparator(_, _, _) => Kind::Closing,
-        Answer::UnequalLengths(_, _, _, _) => Kind::Closing,
-        Answer::UnexpectedEnd(_, _) => Kind::Closing,
-        Answer::End => Kind::Closing,
+        Ok(Answer::Record(_, _)) => Kind::Record,
+        Ok(Answer::More) => Kind::Request,
+        Ok(Answer::WindowLimit(_, _))
+        | Ok(Answer::InvalidStart(_, _))
+        | Ok(Answer::InvalidSeparator(_, _, _))
+        | Ok(Answer::UnequalLengths(_, _, _, _))
+        | Ok(Answer::UnexpectedEnd(_, _))
+        | Ok(Answer::End)
+        | Err(_) => Kind::Closing,
     }
 }
 

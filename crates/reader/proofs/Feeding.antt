@@ -14,8 +14,8 @@ use Rattle.lines.proofs.Laws.{take_within, drop_within}
 use Rattle.reader.specs.declared.Reader.{Reader}
 use Rattle.std.specs.Prelude.{Result, Ok, Err}
 use Rattle.reader.specs.declared.Refusal.{Refusal}
-use Rattle.reader.specs.declared.Refusal.TheVariants.{PastLimit}
-use Rattle.reader.specs.State.{most_bytes, Own}
+use Rattle.reader.specs.declared.Refusal.TheVariants.{Foreign, PastLimit}
+use Rattle.reader.specs.State.{most_bytes, own, Own}
 use Rattle.reader.specs.Feed.{held_of, taken_of, filled, front_of, moves, refused, taking_by, taking_of, ready_of, feed_by, feed_of, kept_by, landed_on, landed, fed_window}
 use Rattle.reader.specs.Inside.{put_of, land_by, land_of}
 use Rattle.reader.proofs.Owning.{own_facts, ready_own}
@@ -43,6 +43,11 @@ module _ (s : Reader) (w n : ℕ) where
   pub feed_unready : (r : Refusal) → ready_of s w ≡ Err r → refused s r ≡ feed_of s w n
   unfolding feed_of
   feed_unready r e = rw e
+
+-- a foreign state is refused
+pub feed_foreign : (s : Reader) (w n : ℕ) → own s w ≡ false → refused s Foreign ≡ feed_of s w n
+unfolding feed_of
+feed_foreign s w n e = rw e
 
 -- where feed takes, the state is own, and what is taken is the stated minimum
 pub took_own : (s : Reader) (w n t : ℕ) → (feed_of s w n).answer ≡ Ok t → Own s w × (t ≡ taken_of s n)

@@ -116,3 +116,7 @@ module _ (s : Reader) (w : ℕ) where
       go : (a b c : Bool) → ready_by a b c ≡ Ok tt → a ≡ true
       go false b c e = let z : ◌≡◌ {A = ℕ} 0 1 = cc in absurd (omega arith)
       go true b c e = refl
+
+  -- and so it is of its own window's length
+  pub ready_own_self : ready_of s w ≡ Ok tt → Own s s.window
+  ready_own_self e = own_self s w (own_facts s w (ready_own e))

@@ -10,6 +10,7 @@ use Rattle.reader.specs.declared.Position.{Position}
 use Rattle.std.specs.Prelude.{Ok, Err}
 use Rattle.reader.specs.declared.Refusal.TheVariants.{WindowSize, Foreign, PastLimit}
 use Rattle.reader.specs.State.{smallest, largest, most_bytes, fresh_of, open_of, own}
+use Rattle.reader.specs.Feed.{ended_of, finish_of}
 use Rattle.reader.specs.Seek.{base, is_held, moved_by, seek_of}
 
 pub open_small : (W : ℕ) → W < smallest → Err WindowSize ≡ open_of W
@@ -23,6 +24,16 @@ open_large W h k = simp (le-leb smallest W h, lt-leb W largest k)
 pub open_fresh : (W : ℕ) → smallest ≤ W → W ≤ largest → Ok (fresh_of W) ≡ open_of W
 unfolding open_of
 open_fresh W h k = simp (le-leb smallest W h, le-leb W largest k)
+
+-- finish refuses a foreign state, and notes the end for one that is own, waits, and is not told the end yet
+module _ (s : Reader) (w : ℕ) where
+  pub finish_foreign : own s w ≡ false → record { state = s; answer = Err Foreign } ≡ finish_of s w
+  unfolding finish_of
+  finish_foreign e = rw e
+
+  pub finish_notes : own s w ≡ true → s.ended ≡ false → s.waiting ≡ true → record { state = ended_of s; answer = Ok tt } ≡ finish_of s w
+  unfolding finish_of
+  finish_notes e k h = rw (e, k, h)
 
 -- whether a place is held
 module _ (s : Reader) (q : ℕ) where

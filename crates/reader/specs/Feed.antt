@@ -43,7 +43,8 @@ abbrev pub front_if : Bool → Reader → Reader
 front_if true s = front_of s
 front_if false s = s
 
-abbrev pub refused : Reader → Refusal → Outcome ℕ
+-- a refusal: the state is as it was
+abbrev pub refused : {A : Type 0} → Reader → Refusal → Outcome A
 refused s r = record { state = s; answer = Err r }
 
 -- by the test: what feed would take does not end past byte 2^48

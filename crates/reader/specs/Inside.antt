@@ -11,7 +11,6 @@ use Rattle.record.specs.declared.Invalid.{Invalid}
 use Rattle.record.specs.declared.Invalid.TheVariants.{Start, Separator, Lengths}
 use Rattle.record.specs.Noted.{listed}
 use Rattle.record.specs.Check.{five_of, span_of, check_of}
-use Rattle.reader.specs.declared.Line.{Line}
 use Rattle.reader.specs.declared.Byte.{Byte}
 use Rattle.reader.specs.declared.Position.{Position}
 use Rattle.reader.specs.declared.Reader.{Reader}
@@ -64,11 +63,8 @@ judged_by r L b last (Err i) = deciding (invalid_of L i) false true
 unfoldable pub judged_of : List ℕ → Record → ℕ → Byte → Bool → Decided
 judged_of H r L b last = judged_by r L b last (check_of (validate H (five_of r)))
 
-abbrev pub position_at : Line → Byte → Position
-position_at l b = record { line = l; byte = b }
-
-abbrev pub moved_of : Reader → Line → Byte → Outcome Place
-moved_of s l b = moved_by s (position_at l b) (is_held s b.0)
+abbrev pub moved_of : Reader → Position → Outcome Place
+moved_of s p = moved_by s p (is_held s p.byte.0)
 
 -- a state that seeks a record in a window of n bytes: its line may be four above a handed-in state's
 pub record Seeks (s : Reader) (n : ℕ) : Type 0 where

@@ -9,14 +9,14 @@ ghost use Rattle.reading.specs.Reading.{end_id};
 ghost use Rattle.record.specs.Noted.{listed};
 ghost use Rattle.record.specs.Check.{span_of};
 ghost use Rattle.reader.specs.State.{number_of, open_of, position_of, notes_fit, own, Own, Notes};
-ghost use Rattle.reader.specs.Feed.{ready_of, feed_of, taking_of, finish_of, fed_window, filled, front_of, notes_from};
+ghost use Rattle.reader.specs.Feed.{refused, ready_of, feed_of, taking_of, finish_of, fed_window, filled, front_of, notes_from};
 ghost use Rattle.reader.specs.Next.{next_of, seeking_of, onward_of, decided_of};
 ghost use Rattle.reader.specs.Seek.{seek_of, moved_by};
-ghost use Rattle.reader.specs.Inside.{put_of, land_of, nothing_of, numbers_of, tail_of, invalid_of, judged_of, position_at, moved_of, Seeks};
+ghost use Rattle.reader.specs.Inside.{put_of, land_of, nothing_of, numbers_of, tail_of, invalid_of, judged_of, moved_of, Seeks};
 
 use record::{Invalid, Noted, Record, Span};
 
-// Line numbers and byte offsets are kinds that can't be mixed.
+// Two types of one shape by document 01: line numbers and byte offsets are kinds that can't be mixed.
 #[derive(Clone, Copy, Debug, PartialEq, Eq)]
 pub struct Line(pub u64);
 
@@ -48,12 +48,12 @@ pub struct Reader {
 // Why a call is refused, by document 01's numbers from 1 on. A refused call changes nothing.
 #[derive(Clone, Copy, Debug, PartialEq, Eq)]
 pub enum Refusal {
-    WindowSize, // open: the window is shorter than 3 or longer than 16,777,216
-    Foreign, // the state is none of a window of this length
-    NotWaiting, // feed or finish: the state is not waiting for input
-    EndNoted, // feed or finish: the end is noted
-    PastLimit, // what is fed would end past byte 2^48; the line or the byte is above 2^48
-    NothingToDo, // no record is wanted, or there is no room for one; a chunk size of 0
+    WindowSize = 1, // open: the window is shorter than 3 or longer than 16,777,216
+    Foreign = 2, // the state is none of a window of this length
+    NotWaiting = 3, // feed or finish: the state is not waiting for input
+    EndNoted = 4, // feed or finish: the end is noted
+    PastLimit = 5, // what is fed would end past byte 2^48; the line or the byte is above 2^48
+    NothingToDo = 6, // no record is wanted, or there is no room for one; a chunk size of 0
 }
 
 // What a call answers, and the state after it. A refused call hands the state back as it was.
@@ -83,7 +83,7 @@ pub enum Place {
     FeedFrom(Byte),
 }
 
-// What next answers but for the state's numbers, and whether it then waits or is closed.
+// What next answers but for the state's numbers, and the state's two flags after it, as `decided_of` has them.
 #[derive(Clone, Copy)]
 pub struct Decided {
     pub answer: Answer,
@@ -95,14 +95,7 @@ impl From<Refusal> for u8 {
     ghost from_gives = { λ refusal number. number ≡ number_of refusal };
 
     fn from(refusal: Refusal) -> u8 {
-        match refusal {
-            Refusal::WindowSize => 1,
-            Refusal::Foreign => 2,
-            Refusal::NotWaiting => 3,
-            Refusal::EndNoted => 4,
-            Refusal::PastLimit => 5,
-            Refusal::NothingToDo => 6,
-        }
+        refusal as u8
     }
 }
 
@@ -118,13 +111,11 @@ impl Reader {
     pub const LINES: u64 = 562949953421312;
 
     // A fresh state for windows of this length: line 1, byte 0, nothing held, waiting.
+    #[tactic(auto, using(crate::proofs::Seeking::open_small, crate::proofs::Seeking::open_large, crate::proofs::Seeking::open_fresh))]
     pub fn open(window: usize) -> Result<Reader, Refusal>
         ensures { result ≡ open_of window }
     {
-        if window < Reader::SMALLEST {
-            return Err(Refusal::WindowSize);
-        }
-        if Reader::LARGEST < window {
+        if window < Reader::SMALLEST || Reader::LARGEST < window {
             return Err(Refusal::WindowSize);
         }
         Ok(Reader {
@@ -255,6 +246,16 @@ impl Reader {
         }
     }
 
+    // A refusal: the state is as it was.
+    fn refused<T>(self, refusal: Refusal) -> Outcome<T>
+        ensures { result ≡ refused self refusal }
+    {
+        Outcome {
+            state: self,
+            answer: Err(refusal),
+        }
+    }
+
     // The state may be fed, or told the end: refused with 2, 4 or 3.
     fn ready(self, n: usize) -> Result<(), Refusal>
         ensures { result ≡ ready_of self n }
@@ -282,10 +283,7 @@ impl Reader {
         let t = n.min(w - held);
         let byte = self.byte;
         if Reader::LIMIT - byte.0 - (held as u64) < (t as u64) {
-            return Outcome {
-                state: self,
-                answer: Err(Refusal::PastLimit),
-            };
+            return self.refused(Refusal::PastLimit);
         }
         if w - fill < n {
             let m = self.to_front();
@@ -302,15 +300,13 @@ impl Reader {
     }
 
     // What feed answers, of the window's and the chunk's lengths alone.
+    #[tactic(auto, using(crate::proofs::Feeding::feed_ready, crate::proofs::Feeding::feed_unready, crate::proofs::Owning::ready_own_self))]
     fn plan(self, w: usize, n: usize) -> Outcome<usize>
         ensures { result ≡ feed_of self w n }
     {
         match self.ready(w) {
             Ok(()) => self.taking(n),
-            Err(refusal) => Outcome {
-                state: self,
-                answer: Err(refusal),
-            },
+            Err(refusal) => self.refused(refusal),
         }
     }
 
@@ -330,6 +326,7 @@ impl Reader {
     }
 
     // Notes the end of the input.
+    #[tactic(auto, unfolding(crate::specs::Feed::finish_of))]
     pub fn finish(self, window: &[u8]) -> Outcome<()>
         ensures { result ≡ finish_of self (length window.now) }
     {
@@ -341,10 +338,7 @@ impl Reader {
                 },
                 answer: Ok(()),
             },
-            Err(refusal) => Outcome {
-                state: self,
-                answer: Err(refusal),
-            },
+            Err(refusal) => self.refused(refusal),
         }
     }
 }
@@ -376,7 +370,7 @@ fn is_blank(s: &[u8], from: usize, to: usize) -> bool
     ensures { result ≡ is_empty (trim_cr (slice from to s.now)) }
 {
     let t = lines::trim_cr(&s[from..to]);
-    t.len() == 0
+    t.is_empty()
 }
 
 // Five numbers that are no record's.
@@ -606,10 +600,7 @@ impl Reader {
         ensures { result ≡ next_of self window.now }
     {
         if !self.owns(window.len()) {
-            return Outcome {
-                state: self,
-                answer: Err(Refusal::Foreign),
-            };
+            return self.refused(Refusal::Foreign);
         }
         if self.closed {
             return Outcome {
@@ -625,44 +616,34 @@ impl Reader {
     }
 
     // To another line and byte, among the held bytes or outside them; a closed reading opens again.
+    #[tactic(auto, using(crate::proofs::Seeking::seek_foreign, crate::proofs::Seeking::seek_far_line, crate::proofs::Seeking::seek_far_byte, crate::proofs::Seeking::seek_moves))]
     pub fn seek(self, window: &[u8], to: Position) -> Outcome<Place>
         ensures { result ≡ seek_of self (length window.now) to }
     {
-        if !self.owns(window.len()) {
-            return Outcome {
-                state: self,
-                answer: Err(Refusal::Foreign),
-            };
-        }
         let line = to.line;
         let byte = to.byte;
-        if Reader::LIMIT < line.0 {
-            return Outcome {
-                state: self,
-                answer: Err(Refusal::PastLimit),
-            };
+        if !self.owns(window.len()) {
+            return self.refused(Refusal::Foreign);
         }
-        if Reader::LIMIT < byte.0 {
-            return Outcome {
-                state: self,
-                answer: Err(Refusal::PastLimit),
-            };
+        if Reader::LIMIT < line.0 || Reader::LIMIT < byte.0 {
+            return self.refused(Refusal::PastLimit);
         }
-        self.moved(line, byte)
+        self.moved(to)
     }
 
-    fn moved(self, line: Line, byte: Byte) -> Outcome<Place>
-        requires { Own self self.window }
-        ensures { result ≡ moved_of self line byte }
+    // To a place among the held bytes, if it is one.
+    fn moved(self, to: Position) -> Outcome<Place>
+        ensures { result ≡ moved_of self to }
     {
         let at = self.byte;
-        let base = at.0 - (self.start as u64);
+        let byte = to.byte;
+        let base = at.0.saturating_sub(self.start as u64);
         if byte.0 < base {
-            return self.outside(line, byte);
+            return self.outside(to);
         }
         let place = byte.0 - base;
         if (self.fill as u64) <= place {
-            return self.outside(line, byte);
+            return self.outside(to);
         }
         let start = place as usize;
         Outcome {
@@ -670,7 +651,7 @@ impl Reader {
                 start,
                 noted: Noted::Zero,
                 mark: start,
-                line,
+                line: to.line,
                 byte,
                 waiting: false,
                 closed: false,
@@ -681,8 +662,8 @@ impl Reader {
     }
 
     // Nothing is held: the input is to be fed from there on.
-    fn outside(self, line: Line, byte: Byte) -> Outcome<Place>
-        ensures { result ≡ moved_by self (position_at line byte) false }
+    fn outside(self, to: Position) -> Outcome<Place>
+        ensures { result ≡ moved_by self to false }
     {
         Outcome {
             state: Reader {
@@ -691,13 +672,13 @@ impl Reader {
                 fill: 0,
                 noted: Noted::Zero,
                 mark: 0,
-                line,
-                byte,
+                line: to.line,
+                byte: to.byte,
                 ended: false,
                 waiting: true,
                 closed: false,
             },
-            answer: Ok(Place::FeedFrom(byte)),
+            answer: Ok(Place::FeedFrom(to.byte)),
         }
     }
 }

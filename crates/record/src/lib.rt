@@ -187,6 +187,7 @@ impl Record {
             && self.end <= n
     }
 
+    // The three lines have a body each: the ends of a line are computed behind the test that bounds them.
     // The head line without `@`.
     pub fn head<'a>(self, window: &'a [u8]) -> &'a [u8]
         ensures { Shows window.entry (head_view window.now (five_of self)) result }

@@ -9,7 +9,7 @@ use std::ops::ControlFlow;
 // More turns than any row takes: each brings input or tells an answer.
 const TURNS: u32 = 512;
 
-// The most bytes of a window.
+// The most bytes of a window; a table has room for 16 entries: fixed memory, no heap.
 const LARGEST: usize = 512;
 
 // A row's reading on its way.
@@ -64,6 +64,7 @@ impl<'a, P: Print> Run<'a, '_, P> {
         telling::text(self.rt, "no closing answer\n");
     }
 
+    // The programs have a turn each: what is brought and told, and when a run ends, is their own, and the `match` is all that they share.
     // Brings the input that is asked for, or tells an answer. Only a record leaves the reading open.
     fn turn(&mut self) -> ControlFlow<()> {
         let next = self.reader.next(self.window);

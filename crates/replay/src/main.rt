@@ -9,7 +9,7 @@ mod telling;
 use std::io;
 use std::io::Read;
 
-// More bytes than the list has.
+// More bytes than the list has, and than an input has: fixed memory, no heap.
 const ROOM: usize = 65536;
 
 fn main(rt: HostRuntime) {

@@ -5,6 +5,7 @@ use std::fmt;
 use std::fmt::Display;
 use writer::Refusal;
 
+// Each test program tells answers in words of its own, which a shared telling could not say.
 // A write that fails is let go: what it leaves out is missing where the output is compared.
 pub fn text(rt: &impl Print, told: impl Display + Drop) {
     let _ = rt.print(told);
@@ -29,6 +30,7 @@ pub fn position(rt: &impl Print, state: Reader) {
     text(rt, format_args!(" at {} {}\n", p.line.0, p.byte.0));
 }
 
+// `rt` and `window` go together here; `Run` holds them, and a second struct of them is no plainer.
 pub fn tell(rt: &impl Print, answer: Answer, window: &[u8]) {
     match answer {
         Answer::Record(r, byte) => found(rt, r, byte, window),
@@ -80,7 +82,7 @@ fn id_or_none(rt: &impl Print, id: Option<Span>, window: &[u8]) {
     }
 }
 
-// What the three writers make of a record.
+// What the three writers make of a record, in fixed memory with no heap.
 pub fn written(rt: &impl Print, r: Record, window: &[u8]) {
     let mut out = [0u8; 1024];
     let head = r.head(window);

@@ -4,7 +4,7 @@
 
 ghost use Rattle.std.specs.Prelude.{◌≡◌, ◌+◌, ◌<◌, ◌≤◌, ◌/◌, length};
 ghost use Rattle.std.proofs.lemmas.List.Edits.{sets};
-ghost use Rattle.sets.specs.Sets.{record_in, row_in, other_of, next_start, after_of, numbers_of, set_of, table_of, entries_of};
+ghost use Rattle.sets.specs.Sets.{row_in, other_of, next_start, after_of, numbers_of, set_of, table_of, entries_of};
 ghost use Rattle.sets.specs.Inside.{over_of, look_of, step_of, begin_of, stopped_of, Sound};
 
 use reader::{Answer, Byte, Line, Outcome, Reader, Refusal};
@@ -28,28 +28,19 @@ pub struct Run {
 }
 
 // The record that an answer of next gives, if it gives one.
-fn record_in(answer: Answer) -> Option<Record>
-    ensures { result ≡ record_in answer }
-{
-    match answer {
-        Answer::Record(r, _) => Some(r),
-        Answer::More => None,
-        Answer::WindowLimit(_, _) => None,
-        Answer::InvalidStart(_, _) => None,
-        Answer::InvalidSeparator(_, _, _) => None,
-        Answer::UnequalLengths(_, _, _, _) => None,
-        Answer::UnexpectedEnd(_, _) => None,
-        Answer::End => None,
-    }
-}
-
-// The same where next may be refused.
 fn given(answer: Result<Answer, Refusal>) -> Option<Record>
     ensures { result ≡ row_in answer }
 {
     match answer {
-        Ok(a) => record_in(a),
-        Err(_) => None,
+        Ok(Answer::Record(r, _)) => Some(r),
+        Ok(Answer::More)
+        | Ok(Answer::WindowLimit(_, _))
+        | Ok(Answer::InvalidStart(_, _))
+        | Ok(Answer::InvalidSeparator(_, _, _))
+        | Ok(Answer::UnequalLengths(_, _, _, _))
+        | Ok(Answer::UnexpectedEnd(_, _))
+        | Ok(Answer::End)
+        | Err(_) => None,
     }
 }
 
@@ -57,10 +48,7 @@ fn given(answer: Result<Answer, Refusal>) -> Option<Record>
 fn other(answer: Result<Answer, Refusal>) -> Result<Reply, Refusal>
     ensures { result ≡ other_of answer }
 {
-    match answer {
-        Ok(a) => Ok(Reply::Other(a)),
-        Err(refusal) => Err(refusal),
-    }
+    answer.map(|a| Reply::Other(a))
 }
 
 // Where the record behind an answered one starts; behind one with no final LF, the end of the held bytes.
@@ -78,6 +66,7 @@ fn next_start(noted: Noted, fill: usize) -> usize
 }
 
 // The state behind the record that it answered last: nothing of the following one counts as searched.
+// `Sound` as a clause: a type for it is no plainer, since it holds of a state that has answered a record, and `look` takes one that may not have.
 fn after(state: Reader) -> Reader
     requires { Sound state }
     ensures { result ≡ after_of state }
@@ -197,7 +186,7 @@ impl Run {
     }
 }
 
-// The five numbers of an entry are stored from `at` on.
+// The five numbers of an entry are stored from `at` on: five stores are no longer than an array of five and its copy.
 fn put(table: &mut [usize], at: usize, entry: Record)
     requires { at + 5 ≤ length table.old }
     ensures { table.new ≡ sets table.old at (numbers_of entry) }
@@ -240,7 +229,7 @@ pub fn read_record_set(state: Reader, window: &[u8], table: &mut [usize]) -> Out
 pub type Entry = Record;
 
 // The same on a table of entries, which are stored one by one.
-// The loop stands twice: a slice is no type that a trait could be written for, and each table would need a wrapper with its laws.
+// The loop stands twice: a trait for both tables, with laws of its room and its stores for each, is no plainer than five lines.
 pub fn read_entries_exact(
     state: Reader,
     window: &[u8],

@@ -15,7 +15,7 @@ use writer::Refusal;
 const LONGEST: usize = 127;
 
 // The decimal digits of n at the end of a text; the answer is the place of the first.
-// The digits are found from the last to the first, so `i` is a place in the text and no count.
+// The digits are found from the last to the first, so `i` is a place in the text and no count. By hand: std's formats promise no bytes in a lent slice.
 #[tactic(auto, using(crate::proofs::Decimals::digit_last))]
 fn digits_at_end(text: &mut [u8], n: u64) -> usize
     requires { 20 ≤ length text.old }

@@ -1,5 +1,5 @@
 // Writers of records into lent output, and checked writers, which refuse fields that would not read back.
-// Each takes any place and any lengths; a refusal writes nothing.
+// Each takes any place and any lengths; a refusal writes nothing. An output and a place in it go side by side, as C and document 01 hand them.
 #![tactic(auto)]
 
 ghost use Rattle.std.specs.Prelude.{◌≡◌, ◌+◌, ◌<◌, ◌≤◌, length, MatchOption, option_copied};
@@ -16,22 +16,18 @@ use record::{Record, id_length};
 #[derive(Clone, Copy, Debug, PartialEq, Eq)]
 pub enum Refusal {
     // The output has too little room from the place on, or the place is past its end.
-    NoRoom,
+    NoRoom = 12,
     // A field holds a line end or ends in a carriage return, the lengths differ, or an id given apart holds a space.
-    BadFields,
+    BadFields = 13,
     // The five numbers are those of no record in the window.
-    NoRecord,
+    NoRecord = 14,
 }
 
 impl From<Refusal> for u8 {
     ghost from_gives = { λ refusal number. number ≡ number_of refusal };
 
     fn from(refusal: Refusal) -> u8 {
-        match refusal {
-            Refusal::NoRoom => 12,
-            Refusal::BadFields => 13,
-            Refusal::NoRecord => 14,
-        }
+        refusal as u8
     }
 }
 

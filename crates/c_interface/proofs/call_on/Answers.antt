@@ -12,4 +12,4 @@ put-requires g c = (unpacked_room _ _ _ (sym c.in-Some.ensures)).1
 
 pub returns-in-Some-clause-called : goal.returns-in-Some-clause-called
 returns-in-Some-clause-called g c =
-    rw (sym c.in-Some.ensures) (_, _, _, _, c.call-answer.ensures, refl, refl, c.into-told.ensures, record { code = c.put.ensures.code; state = c.pack.ensures; values = c.put.ensures.stored })
+    rw (sym c.in-Some.ensures) (_, _, _, _, c.call-outcome.ensures, refl, refl, c.from.ensures, record { code = c.put.ensures.code; state = c.pack.ensures; values = c.put.ensures.stored })

@@ -6,7 +6,7 @@ use Rattle.reader.proofs.Nexting.{next_foreign, next_closed, next_open, onward_s
 use Rattle.reader.proofs.Reader.next.Goals as goal
 
 pub returns-then-not-owns : goal.returns-then-not-owns
-returns-then-not-owns c = next_foreign _ _ (sym c.owns.ensures ∙ c.if-not-owns.true)
+returns-then-not-owns c = c.refused.ensures ∙ next_foreign _ _ (sym c.owns.ensures ∙ c.if-not-owns.true)
 
 pub returns-then-self : goal.returns-then-self
 returns-then-self c = next_closed _ _ (sym c.owns.ensures ∙ c.if-not-owns.false) c.if-self.true
