@@ -1,5 +1,5 @@
 // The library as C and Rust call it: its calls on numbers and slices, each under a plain name. c_interface_c exports them.
-// A state is lent as 14 numbers, what a call answers as a code and 6 numbers; c_interface.h has their order.
+// A state is lent as 14 numbers, what a call answers as a code and 6 numbers; c_interface.h has their order. They go loose, with the window and the table beside them, as C has these arguments.
 #![tactic(auto)]
 
 pub mod views;

@@ -98,7 +98,7 @@ pub extern "C" fn fq_read_record_set_exact(
     c_interface::fq_read_record_set_exact(state, values, window, table, wanted)
 }
 
-// The offset and the length of a view, of a record by its five numbers.
+// The offset and the length of a view, of a record by its five numbers: C hands them one by one, and the view by a number.
 #[unsafe(no_mangle)]
 pub extern "C" fn fq_view(
     values: &mut [usize],
@@ -130,7 +130,7 @@ pub extern "C" fn fq_write_to(
     c_interface::writes::fq_write_to(values, out, at, head, seq, qual)
 }
 
-// The same with a head of an id, and of a space and a description where one is given.
+// The same with a head of an id, and of a space and a description where one is given: C hands bytes and whether they are given.
 #[unsafe(no_mangle)]
 pub extern "C" fn fq_write_parts(
     values: &mut [usize],
@@ -147,7 +147,7 @@ pub extern "C" fn fq_write_parts(
     c_interface::writes::fq_write_parts(values, out, at, id, desc, given, seq, qual)
 }
 
-// The window's bytes from a record's start to its end, and LF.
+// The window's bytes from a record's start to its end, and LF. C hands the five numbers one by one.
 #[unsafe(no_mangle)]
 pub extern "C" fn fq_write_unchanged(
     values: &mut [usize],

@@ -5,7 +5,7 @@ use std::io::Write;
 // More than an error's text takes.
 const ROOM: usize = 128;
 
-// A line that says what failed, and why in the system's words. It takes no memory.
+// A line that says what failed, and why in the system's words. Its text has fixed memory, no heap.
 pub fn tell(rt: &impl Eprint, what: &str, error: io::Error) {
     let mut bytes = [0u8; ROOM];
     let mut room = &mut bytes[..];

@@ -40,7 +40,7 @@ fn argument(rt: &impl Env, i: usize, low: u64, default: u64) -> Option<u64> {
     }
 }
 
-// Whether there is an argument of this number: where there is none, none of a higher number is there either.
+// Whether there is an argument of this number: where there is none, none of a higher number is there either. The word has fixed memory, no heap.
 fn has_argument(rt: &impl Env, i: usize) -> bool {
     let mut word = [0u8; 1];
     !matches!(rt.arg(i, &mut word), Err(FillError::NotPresent))

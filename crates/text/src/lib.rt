@@ -58,7 +58,7 @@ fn values_at_end(text: &mut [u8; LONGEST], values: &[u64]) -> usize
     i
 }
 
-// The decimal digits of n, from place `at` on.
+// The decimal digits of n, from place `at` on. The digits have fixed memory, no heap.
 pub fn put_number(out: &mut [u8], at: usize, n: u64) -> Result<usize, Refusal>
     ensures { Writes none out.old at (decimal n) result out.new }
 {
