@@ -4,10 +4,7 @@ use Rattle.std.specs.Prelude.{ℕ, ◌+◌, ◌%◌, ◌^◌, List, [], ◌∷�
 use Rattle.reading.specs.Marked.{bytes}
 use Rattle.record.specs.declared.Record as window
 use Rattle.record.specs.declared.Span.{Span}
-use Rattle.reader.specs.declared.Refusal.{Refusal}
-use Rattle.reader.specs.State.{number_of}
 use Rattle.reader.specs.declared.Reader.{Reader}
-use Rattle.reader.specs.declared.Outcome.{Outcome}
 use Rattle.reader.specs.declared.Answer.{Answer}
 use Rattle.reader.specs.declared.Answer.TheVariants.{Record, More, WindowLimit, InvalidStart, InvalidSeparator, UnequalLengths, UnexpectedEnd, End}
 use Rattle.reader.specs.Seek.{base}
@@ -50,14 +47,14 @@ values_of L k End = []
 abbrev pub line_at : ℕ → ℕ → Answer → List ℕ
 line_at L k a = line_bytes (word_of a) (values_of L k a)
 
--- a refusal is told by its number
-abbrev pub line_by : ℕ → ℕ → Result Answer Refusal → List ℕ
+-- a refusal is told by its number, whichever it is
+abbrev pub line_by : ℕ → ℕ → Result Answer ℕ → List ℕ
 line_by L k (Ok a) = line_at L k a
-line_by L k (Err r) = line_bytes (bytes "error") (number_of r ∷ [])
+line_by L k (Err n) = line_bytes (bytes "error") (n ∷ [])
 
--- the line of what next answered
-unfoldable pub answer_line : Outcome Answer → List ℕ
-answer_line n = line_by n.state.line.0 (base n.state) n.answer
+-- the line of what next answered, or of its refusal's number; s is the state after it
+unfoldable pub answer_line : Reader → Result Answer ℕ → List ℕ
+answer_line s a = line_by s.line.0 (base s) a
 
 -- the line of a state's position
 unfoldable pub position_line : Reader → List ℕ

@@ -10,7 +10,7 @@ ghost use Rattle.writer.specs.Answer.{Writes};
 ghost use Rattle.text.specs.Line.{line_bytes};
 ghost use Rattle.answers.specs.Told.{offset as told_offset, id_values, record_values, line_at, answer_line, position_line};
 
-use reader::{Answer, Line, Outcome, Reader};
+use reader::{Answer, Line, Reader};
 use record::{Record, Span};
 use text::put_line;
 use writer::Refusal;
@@ -102,15 +102,19 @@ fn put_told(
     }
 }
 
-// The line of what `next` answered, in absolute offsets.
+// The line of what `next` answered, in absolute offsets, or of its refusal's number, which may be any; `state` is that after it.
 #[tactic(auto, unfolding(crate::specs::Told::answer_line))]
-pub fn put_answer(out: &mut [u8], at: usize, next: Outcome<Answer>) -> Result<usize, Refusal>
-    ensures { Writes none out.old at (answer_line next) result out.new }
+pub fn put_answer(
+    out: &mut [u8],
+    at: usize,
+    state: Reader,
+    answer: Result<Answer, u8>,
+) -> Result<usize, Refusal>
+    ensures { Writes none out.old at (answer_line state answer) result out.new }
 {
-    let state = next.state;
-    match next.answer {
+    match answer {
         Ok(answer) => put_told(out, at, state.line, front_of(state), answer),
-        Err(refusal) => put_line(out, at, b"error", &[u64::from(u8::from(refusal))]),
+        Err(number) => put_line(out, at, b"error", &[u64::from(number)]),
     }
 }
 

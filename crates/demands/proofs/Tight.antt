@@ -98,21 +98,24 @@ qual_one w r = shows_one w (qual_view w.now (five_of r))
 pub id_bytes_one : (w : Bor (List ℕ)) (r : Record) → OnePart w (λ x. Shows w (id_view w.now (five_of r)) x)
 id_bytes_one w r = shows_one w (id_view w.now (five_of r))
 
+pub desc_bytes_one : (w : Bor (List ℕ)) (r : Record) → OnePart w (λ x. Shows w (desc_view w.now (five_of r)) x)
+desc_bytes_one w r = shows_one w (desc_view w.now (five_of r))
+
 -- a part that may be absent: it is so in both answers, or both have its bytes and its place
 abbrev Same : Option (Bor (List ℕ)) → Option (Bor (List ℕ)) → Type 0
 Same None None = Unit {0}
 Same (Some x) (Some y) = (x.now ≡ y.now) × (x.ref_ptr ≡ y.ref_ptr)
 Same x y = ⊥
 
--- what `desc_bytes` promises of its answer
+-- what `desc` promises of its answer
 abbrev Described : Bor (List ℕ) → Record → Option (Bor (List ℕ)) → Type 0
 Described w r x = (is_some x ≡ has_desc w.now (five_of r)) × IfSome x (λ v. Shows w (desc_view w.now (five_of r)) v)
 
-pub desc_bytes_one : (w : Bor (List ℕ)) (r : Record) → (x y : Option (Bor (List ℕ))) → Described w r x → Described w r y → Same x y
-desc_bytes_one w r None None e f = tt
-desc_bytes_one w r (Some x) (Some y) e f = shows_one w (desc_view w.now (five_of r)) x y e.1 f.1
-desc_bytes_one w r None (Some y) e f = let z : ◌≡◌ {A = ℕ} 0 1 = cc (e.0, f.0) in omega arith
-desc_bytes_one w r (Some x) None e f = let z : ◌≡◌ {A = ℕ} 0 1 = cc (e.0, f.0) in omega arith
+pub desc_one : (w : Bor (List ℕ)) (r : Record) → (x y : Option (Bor (List ℕ))) → Described w r x → Described w r y → Same x y
+desc_one w r None None e f = tt
+desc_one w r (Some x) (Some y) e f = shows_one w (desc_view w.now (five_of r)) x y e.1 f.1
+desc_one w r None (Some y) e f = let z : ◌≡◌ {A = ℕ} 0 1 = cc (e.0, f.0) in omega arith
+desc_one w r (Some x) None e f = let z : ◌≡◌ {A = ℕ} 0 1 = cc (e.0, f.0) in omega arith
 
 -- ---- reader
 

@@ -36,19 +36,23 @@ pub fn trim_cr(s: &[u8]) -> &[u8]
     if s[m] == b'\r' { &s[..m] } else { s }
 }
 
+// The copy and the move are loops: the library's `copy_from_slice` and `copy_within` call memmove, and the archives for C ask no such name from outside.
 // Copies `src` over the front of `dst`, as much of it as `dst` has room for; the rest of `dst` stays.
 pub fn copy_into(dst: &mut [u8], src: &[u8])
     ensures { dst.new ≡ copied dst.old src.now }
 {
     let n = dst.len().min(src.len());
-    dst[..n].copy_from_slice(&src[..n]);
+    for i in 0..n {
+        dst[i] = src[i];
+    }
 }
 
 // Moves the bytes from `start` up to `fill` to the front of `window`; behind them stays what was there.
 pub fn move_front(window: &mut [u8], start: usize, fill: usize)
     ensures { window.new ≡ moved_front window.old start fill }
 {
-    let end = fill.min(window.len());
-    let from = start.min(end);
-    window.copy_within(from..end, 0);
+    let count = fill.min(window.len()).saturating_sub(start);
+    for i in 0..count {
+        window[i] = window[start + i];
+    }
 }

@@ -5,6 +5,8 @@ use std::fmt::Display;
 
 // Each test program tells answers in words of its own, which a shared telling could not say.
 // A write that fails is let go: what it leaves out is missing where the output is compared.
+// Not inlined: a caller would have room for each text that it prints on its own stack.
+#[inline(never)]
 pub fn text(rt: &impl Print, told: impl Display + Drop) {
     let _ = rt.print(told);
 }

@@ -19,6 +19,8 @@ struct Run<'a, P, R> {
 }
 
 // Reads with a window of `size` bytes and chunks of at most `most`.
+// Not inlined: its memory is taken when the arguments are read, and not beside theirs.
+#[inline(never)]
 pub fn read_all<P: Print + Eprint, R: Read>(rt: &P, stdin: &mut R, size: usize, most: usize) {
     let mut window = [0u8; LARGEST];
     let mut chunk = [0u8; LARGEST];
@@ -50,28 +52,28 @@ impl<P: Print + Eprint, R: Read> Run<'_, P, R> {
 
     // The programs have a turn each: what is brought and told, and when a run ends, is their own, and the `match` is all that they share.
     // One answer: the input that it asks for, or its line. Behind the closing one stands the position, and all is written.
+    // One place prints an answer: from two, a record of 8 bytes took three tenths more time.
     fn turn(&mut self) -> ControlFlow<()> {
         let next = self.reader.next(self.window);
         self.reader = next.state;
-        match next.answer {
-            Ok(Answer::More) => self.bring(),
-            Ok(Answer::Record(_, _)) => {
-                self.output.put_answer(next);
-                self.output.settle()
-            }
+        let closes = match next.answer {
+            Ok(Answer::More) => return self.bring(),
+            Ok(Answer::Record(_, _)) => false,
             Ok(Answer::WindowLimit(_, _))
             | Ok(Answer::InvalidStart(_, _))
             | Ok(Answer::InvalidSeparator(_, _, _))
             | Ok(Answer::UnequalLengths(_, _, _, _))
             | Ok(Answer::UnexpectedEnd(_, _))
             | Ok(Answer::End)
-            | Err(_) => {
-                self.output.put_answer(next);
-                self.output.put_position(next.state);
-                let _ = self.output.flush();
-                ControlFlow::Break(())
-            }
+            | Err(_) => true,
+        };
+        self.output.put_answer(next);
+        if !closes {
+            return self.output.settle();
         }
+        self.output.put_position(next.state);
+        let _ = self.output.flush();
+        ControlFlow::Break(())
     }
 
     // Feeds what is left of the chunk, or what a read brings, and notes the end where that is nothing. A read that fails ends the run.

@@ -25,7 +25,8 @@ impl<'a, P: Print + Eprint> Output<'a, P> {
     }
 
     pub fn put_answer(&mut self, next: Outcome<Answer>) {
-        let written = answers::put_answer(self.bytes, self.gathered, next);
+        let answer = next.answer.map_err(u8::from);
+        let written = answers::put_answer(self.bytes, self.gathered, next.state, answer);
         self.go_behind(written);
     }
 

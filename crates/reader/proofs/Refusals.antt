@@ -21,7 +21,7 @@ use Rattle.reader.specs.State.{most_bytes, own}
 use Rattle.reader.specs.Feed.{held_of, taken_of, moves, taking_by, taking_of, ready_of, feed_by, feed_of, landed, fed_by, fed_window, finish_by, finish_of}
 use Rattle.reader.specs.Next.{answer_of, seeking_of, next_by, next_of}
 use Rattle.reader.specs.Seek.{is_held, moved_by, seek_by, seek_of}
-use Rattle.reader.specs.Numbers.{answer_number}
+use Rattle.reader.specs.Numbers.{next_number}
 
 -- ---- a refusal changes no state and no window
 
@@ -78,7 +78,7 @@ seek_refused_state s w p r = go (own s w) (leb p.line.0 most_bytes && leb p.byte
 
 -- ---- an answer's number is the reading's
 
-pub number_kept : (b : Byte) (a : told.Answer) → answer_number (answer_of b a) ≡ told.number_of a
+pub number_kept : (b : Byte) (a : told.Answer) → next_number (Ok (answer_of b a)) ≡ told.number_of a
 number_kept b (told.found r) = refl
 number_kept b (told.window_limit L p) = refl
 number_kept b (told.invalid_start x L) = refl

@@ -2,7 +2,7 @@
 -- Assumes nothing.
 use mathlib.Core.Path.{◌≡◌, refl, sym, ap, ◌∙◌}
 use mathlib.Core.Bool.{Bool, true, false, cond, ◌&&◌}
-use mathlib.Core.Option.{none, some}
+use mathlib.Core.Option.{Option, none, some}
 use mathlib.Core.List.{List, []}
 use Prim.Native.Nat.{ℕ, ◌+◌, ◌-◌, ◌<◌, ◌≤◌}
 use native.Mathlib.Nat.{zero-add}
@@ -12,10 +12,12 @@ use lib.ListN.{length, take, drop, length-drop}
 use lib.Seq.{take_all}
 use borrow.Author.Tests.{leb-true, lt-ltb}
 use denote.Ref.{Bor}
+use Rattle.std.specs.Prelude.{Some, None, is_some, IfSome, unwrap_or}
+use Rattle.std.specs.Prelude as std
 use Rattle.reading.specs.Bytes.{id_length}
 use Rattle.reading.specs.Answer.{Five}
 use Rattle.reading.specs.Reading.{id_in, desc_in}
-use Rattle.record.specs.Views.{view_test, View, view, nowhere, view_by, desc_by, present, Shows}
+use Rattle.record.specs.Views.{view_test, View, view, nowhere, view_by, head_view, desc_by, desc_view, present, has_desc, Shows}
 
 -- the five numbers are those of a record within n bytes
 pub record Fits (r : Five) (n : ℕ) : Type 0 where
@@ -78,3 +80,14 @@ module _ (w h v : Bor (List ℕ)) (x : View) (s : Shows w x h) (n : ℕ) (e : n 
     by : (t : Bool) → t ≡ present (cond t (some (drop (id_length h.now + 1) h.now)) none)
     by true = refl
     by false = refl
+
+-- the description, or where there is none the empty part at the window's front
+pub desc_or_front : {w d v : Bor (List ℕ)} (r : Five) (o : std.Option (Bor (List ℕ)))
+    → is_some o ≡ has_desc w.now r → IfSome o (Shows w (desc_view w.now r)) → d.now ≡ [] → d.ref_ptr ≡ w.ref_ptr → v ≡ unwrap_or o d → Shows w (desc_view w.now r) v
+unfolding has_desc desc_view
+desc_or_front {w} {d} {v} r (Some x) g s b p e = rw e s
+desc_or_front {w} {d} {v} r None g s b p e = rw e (by (desc_in (head_view w.now r).bytes) g)
+  where
+    by : (q : Option (List ℕ)) → false ≡ present q → Shows w (desc_by ((head_view w.now r).from + (id_length (head_view w.now r).bytes + 1)) q) d
+    by none f = front b p
+    by (some q) f = let z : ◌≡◌ {A = ℕ} 0 1 = cc in absurd (omega arith)

@@ -228,7 +228,7 @@ impl Record {
     }
 
     // What follows the first space of the head, though it may be empty; without a space there is no description.
-    pub fn desc_bytes<'a>(self, window: &'a [u8]) -> Option<&'a [u8]>
+    pub fn desc<'a>(self, window: &'a [u8]) -> Option<&'a [u8]>
         ensures given { is_some result ≡ has_desc window.now (five_of self) }
         ensures shown { IfSome result (Shows window.entry (desc_view window.now (five_of self))) }
     {
@@ -240,5 +240,19 @@ impl Record {
         } else {
             None
         }
+    }
+
+    // The head has a description, though it may be empty.
+    pub fn has_desc(self, window: &[u8]) -> bool
+        ensures { result ≡ has_desc window.now (five_of self) }
+    {
+        self.desc(window).is_some()
+    }
+
+    // What follows the first space of the head; where there is no description, the empty part at the window's front.
+    pub fn desc_bytes<'a>(self, window: &'a [u8]) -> &'a [u8]
+        ensures { Shows window.entry (desc_view window.now (five_of self)) result }
+    {
+        self.desc(window).unwrap_or(&window[..0])
     }
 }

@@ -117,7 +117,8 @@ impl<'a, P: Print> Run<'a, '_, P> {
         };
     }
 
-    // All of the input is fed and its end noted; then sets of at most so many records.
+    // All of the input is fed and its end noted; then sets of at most so many records. Not inlined, as `written`.
+    #[inline(never)]
     fn sets(&mut self, wanted: usize) {
         self.reader = self.reader.feed(self.window, self.input).state;
         self.reader = self.reader.finish(self.window).state;

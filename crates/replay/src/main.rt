@@ -2,11 +2,12 @@
 // The file `stdin` has the rows and `stdout` what the Rust answered to them; oracle/run --list wrote both.
 #![tactic(auto)]
 
+ghost use Rattle.std.specs.Prelude.{◌≤◌, length};
+
 mod driver;
 mod rows;
 mod telling;
 
-use std::io;
 use std::io::Read;
 
 // More bytes than the list has, and than an input has: fixed memory, no heap.
@@ -14,11 +15,26 @@ const ROOM: usize = 65536;
 
 fn main(rt: HostRuntime) {
     let mut bytes = [0u8; ROOM];
-    let mut room = &mut bytes[..];
-    // A read that fails ends the list.
-    let _ = io::copy(&mut rt.stdin().take(ROOM as u64), &mut room);
-    let n = ROOM.saturating_sub(room.len());
+    let n = read_full(&mut rt.stdin(), &mut bytes);
     list(&rt, &bytes[..n]);
+}
+
+// Reads until the bytes are all filled, the input ends or a read fails, and answers how many are filled.
+// A read is handed all the room that is left: `io::copy` hands on 8,192 bytes, and of a longer message the rest would be lost.
+fn read_full(input: &mut impl Read, bytes: &mut [u8]) -> usize
+    ensures { result ≤ length bytes.new }
+{
+    let mut done = 0;
+    while done < bytes.len() {
+        let Ok(n) = input.read(&mut bytes[done..]) else {
+            return done;
+        };
+        if n == 0 {
+            return done;
+        }
+        done += n;
+    }
+    done
 }
 
 // More rows than the list has.

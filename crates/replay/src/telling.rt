@@ -7,6 +7,8 @@ use writer::Refusal;
 
 // Each test program tells answers in words of its own, which a shared telling could not say.
 // A write that fails is let go: what it leaves out is missing where the output is compared.
+// Not inlined: a caller would have room for each text that it prints on its own stack.
+#[inline(never)]
 pub fn text(rt: &impl Print, told: impl Display + Drop) {
     let _ = rt.print(told);
 }
@@ -66,7 +68,7 @@ pub fn found(rt: &impl Print, r: Record, byte: Byte, window: &[u8]) {
         format_args!(" head {} seq {} qual {}", Hex(head), Hex(seq), Hex(qual)),
     );
     text(rt, format_args!(" id {}", Hex(r.id_bytes(window))));
-    if let Some(desc) = r.desc_bytes(window) {
+    if let Some(desc) = r.desc(window) {
         text(rt, format_args!(" desc {}", Hex(desc)));
     }
 }
@@ -82,7 +84,8 @@ fn id_or_none(rt: &impl Print, id: Option<Span>, window: &[u8]) {
     }
 }
 
-// What the three writers make of a record, in fixed memory with no heap.
+// What the three writers make of a record, in fixed memory with no heap: not inlined, so that a reading has none of it.
+#[inline(never)]
 pub fn written(rt: &impl Print, r: Record, window: &[u8]) {
     let mut out = [0u8; 1024];
     let head = r.head(window);
@@ -91,7 +94,7 @@ pub fn written(rt: &impl Print, r: Record, window: &[u8]) {
     let to = writer::write_to(&mut out, 0, head, seq, qual);
     line_of(rt, "to", to, &out);
     let id = r.id_bytes(window);
-    let desc = r.desc_bytes(window);
+    let desc = r.desc(window);
     let parts = writer::write_parts(&mut out, 0, id, desc, seq, qual);
     line_of(rt, "parts", parts, &out);
     let unchanged = writer::write_unchanged(&mut out, 0, window, r);

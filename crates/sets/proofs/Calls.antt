@@ -66,6 +66,11 @@ other_uncounted : (a : Result Answer Refusal) (k : ℕ) → other_of a ≡ Ok (C
 other_uncounted (Ok a) k e = let z : ◌≡◌ {A = ℕ} 0 1 = cc in omega arith
 other_uncounted (Err q) k e = let z : ◌≡◌ {A = ℕ} 0 1 = cc in omega arith
 
+-- with room for a record that is wanted, only next can refuse
+pub listed_refused : (k : ℕ) (x : Outcome Answer) (t : Reader) (c : Refusal) → (listed_by k x t).answer ≡ Err c → x.answer ≡ Err c
+listed_refused zero x t c e = other_refused x.answer c e
+listed_refused (suc k) x t c e = let z : ◌≡◌ {A = ℕ} 0 1 = cc in absurd (omega arith)
+
 -- how a set call answers: refused, with none, or with a count
 module _ (s : Reader) (w : List ℕ) (room wanted : ℕ) where
   abbrev rs : List Record
@@ -76,15 +81,11 @@ module _ (s : Reader) (w : List ℕ) (room wanted : ℕ) where
   unfolding set_of collected
   refusal_keeps c = go (own s (length w)) refl (eqb (min wanted room) 0) refl
     where
-      by : (k : ℕ) (x : Outcome Answer) (t : Reader) → (listed_by k x t).answer ≡ Err c → x.answer ≡ Err c
-      by zero x t e = other_refused x.answer c e
-      by (suc k) x t e = let z : ◌≡◌ {A = ℕ} 0 1 = cc in absurd (omega arith)
-
       go : (o : Bool) → own s (length w) ≡ o → (z : Bool) → eqb (min wanted room) 0 ≡ z → (set_by (min wanted room) s w o z).answer ≡ Err c
           → ((set_by (min wanted room) s w o z).state ≡ s) × (rs ≡ [])
       go false o z q e = (refl, foreign_none (min wanted room) s w o)
       go true o true q e = let z = eqb-true (min wanted room) 0 q in (refl, ap (λ (j : ℕ). (collected j s w).records) z)
-      go true o false q e = absurd (true≢false (sym o ∙ (next_refused s w c (by (length rs) (next_of s w) (collected (min wanted room) s w).state e)).0))
+      go true o false q e = absurd (true≢false (sym o ∙ (next_refused s w c (listed_refused (length rs) (next_of s w) (collected (min wanted room) s w).state c e)).0))
 
   -- with none, answer and state are next's, and no record is listed
   pub none_next : (a : Answer) → (set_of s w room wanted).answer ≡ Ok (Other a) → (Ok a ≡ (next_of s w).answer) × ((set_of s w room wanted).state ≡ (next_of s w).state) × (rs ≡ [])

@@ -3,10 +3,10 @@
 use mathlib.Core.Path.{◌≡◌, refl, sym, ap, ◌∙◌}
 use mathlib.Core.Bool.{Bool, true, false, ◌||◌, true≢false}
 use mathlib.Core.List.{List, [], ◌∷◌, map}
-use Prim.Native.Nat.{ℕ, zero, suc, ◌+◌, ◌≤◌}
+use Prim.Native.Nat.{ℕ, zero, suc, ◌+◌, ◌≤◌, min}
 use native.Mathlib.Omega.{arith}
 use lib.ListN.{length, take}
-use lib.Dec.{leb}
+use lib.Dec.{leb, eqb}
 use Rattle.reading.specs.Bytes.{pieces, all_blank}
 use Rattle.reading.specs.Reading.{Verdict, good, bad_start, bad_separator, bad_lengths, Step, onward, unended, judged, validate, rest, record_of, complete, tail_by, tail_rule}
 use Rattle.record.specs.declared.Noted.{Noted}
@@ -22,14 +22,15 @@ use Rattle.reader.specs.Next.{settled_by, decided_by, decided_of, onward_by, onw
 use Rattle.reader.specs.declared.Outcome.{Outcome}
 use Rattle.reader.proofs.Owning.{own_facts}
 use Rattle.reader.proofs.Nexting.{next_closed}
+use Rattle.reader.proofs.Refusals.{next_refused}
 use Rattle.std.specs.Prelude.{Some, None, Ok, Err}
 use Rattle.reader.specs.declared.Refusal.{Refusal}
 use Rattle.sets.specs.declared.Reply.TheVariants.{Count, Other}
-use Rattle.sets.specs.Sets.{record_in, row_in, next_start, placed, after_of, set_of, records_of}
+use Rattle.sets.specs.Sets.{record_in, row_in, collected, next_start, placed, after_of, listed_by, set_of, records_of}
 use Rattle.sets.specs.Calls.{answers_of, state_after}
 use Rattle.sets.proofs.Sounds.{next_sound, record_own}
 use Rattle.sets.proofs.Owned.{next_window, next_own, after_own}
-use Rattle.sets.proofs.Calls.{none_next, count_gives}
+use Rattle.sets.proofs.Calls.{listed_refused, none_next, count_gives}
 
 never : {A : Type 0} (r : Record) → None ≡ Some r → A
 never r e = let z : ◌≡◌ {A = ℕ} 0 1 = cc in absurd (omega arith)
@@ -164,6 +165,18 @@ module _ (s : Reader) (w : List ℕ) (room wanted : ℕ) where
       let t = state_after (suc k) s w in
       (g.2 ∙ ap (placed t) (at_fill t.fill t.closed t.noted (sym (ap (λ (r : Reader). r.closed) g.2) ∙ c) l), ap (λ (x : Outcome Answer). x.answer) (sym n), ap (λ (x : Outcome Answer). position_of x.state) (sym n))
 
-  -- an answer of next that a set call hands on is no refusal
-  pub none_unrefused : (a : Answer) → (set_of s w room wanted).answer ≡ Ok (Other a) → (c : Refusal) → (next_of s w).answer ≡ Err c → ⊥
-  none_unrefused a e c f = let h : Ok a ≡ Err c = (none_next s w room wanted a e).0 ∙ f in let z : ◌≡◌ {A = ℕ} 0 1 = cc in omega arith
+  -- an own state, with a record wanted and room for one, is never refused: no refusal of next is handed on, and none stands behind an answer that is
+  pub none_unrefused : (c : Refusal)
+      → (own s (length w) ≡ true → eqb (min wanted room) 0 ≡ false → (set_of s w room wanted).answer ≡ Err c → ⊥)
+      × ((a : Answer) → (set_of s w room wanted).answer ≡ Ok (Other a) → (next_of s w).answer ≡ Err c → ⊥)
+  unfolding set_of
+  none_unrefused c = (refused, answered)
+    where
+      refused : own s (length w) ≡ true → eqb (min wanted room) 0 ≡ false → (set_of s w room wanted).answer ≡ Err c → ⊥
+      refused o z e =
+          let n = min wanted room in
+          let f : (listed_by (length (collected n s w).records) (next_of s w) (collected n s w).state).answer ≡ Err c = rw (o, z) at e in
+          true≢false (sym o ∙ (next_refused s w c (listed_refused (length (collected n s w).records) (next_of s w) (collected n s w).state c f)).0)
+
+      answered : (a : Answer) → (set_of s w room wanted).answer ≡ Ok (Other a) → (next_of s w).answer ≡ Err c → ⊥
+      answered a e f = let h : Ok a ≡ Err c = (none_next s w room wanted a e).0 ∙ f in let z : ◌≡◌ {A = ℕ} 0 1 = cc in omega arith

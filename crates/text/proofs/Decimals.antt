@@ -60,8 +60,8 @@ module _ (l all : List ℕ) (r i : ℕ) (e : decimal r ++ drop i l ≡ all) wher
   digit_more g h k = rw (stored_before l i (ZERO + r % 10) h k) (sym (append_snoc (decimal (r / 10)) (ZERO + r % 10) (drop i l)) ∙ rw (decimal_more r g) at e)
 
   -- with the only digit of r in front of i, none is left
-  pub digit_last : r < 10 → 1 ≤ i → i ≤ length l → drop (i - 1) (set l (i - 1) (ZERO + r % 10)) ≡ all
-  digit_last g h k = let m : r % 10 ≡ r = omega arith in rw (stored_before l i (ZERO + r % 10) h k, m) (rw (decimal_last r g) at e)
+  pub digit_last : r < 10 → 1 ≤ i → i ≤ length l → drop (i - 1) (set l (i - 1) (ZERO + r)) ≡ all
+  digit_last g h k = rw (stored_before l i (ZERO + r) h k) (rw (decimal_last r g) at e)
 
 -- ---- room for the digits
 

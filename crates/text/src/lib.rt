@@ -15,7 +15,7 @@ use writer::Refusal;
 const LONGEST: usize = 127;
 
 // The decimal digits of n at the end of a text; the answer is the place of the first.
-// The digits are found from the last to the first, so `i` is a place in the text and no count. By hand: std's formats promise no bytes in a lent slice.
+// The digits are found from the last to the first, so `i` is a place in the text and no count. The one found last needs no division. By hand: std's formats promise no bytes in a lent slice.
 #[tactic(auto, using(crate::proofs::Decimals::digit_last))]
 fn digits_at_end(text: &mut [u8], n: u64) -> usize
     requires { 20 ≤ length text.old }
@@ -23,14 +23,14 @@ fn digits_at_end(text: &mut [u8], n: u64) -> usize
 {
     let mut i = text.len();
     let mut rest = n;
-    loop {
+    while 10 <= rest {
         i -= 1;
         text[i] = b'0' + (rest % 10) as u8;
         rest /= 10;
-        if rest == 0 {
-            return i;
-        }
     }
+    i -= 1;
+    text[i] = b'0' + rest as u8;
+    i
 }
 
 // A tab and the digits of n at the end of a text.

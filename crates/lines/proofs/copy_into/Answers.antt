@@ -1,5 +1,6 @@
-use Rattle.lines.proofs.Copies.{copied_all}
+use Rattle.std.proofs.Common.{arith}
+use Rattle.lines.proofs.Copies.{over_all}
 use Rattle.lines.proofs.copy_into.Goals as goal
 
 pub returns : goal.returns
-returns c = copied_all _ _ _ _ c.min-n.ensures c.copy_from_slice.ensures.after
+returns c = over_all _ _ _ c.loop-i.i c.loop-i.invariant.0 (omega arith)

@@ -18,7 +18,7 @@ pub returns-then-which-lt4 : goal.returns-then-which-lt4
 returns-then-which-lt4 c = c.part.ensures ∙ view_empty _ _ (sym c.fits.ensures ∙ c.if-not-fits.true) _ c.if-which-lt4.true
 
 pub returns-else-which-lt4 : goal.returns-else-which-lt4
-returns-else-which-lt4 c = c.new-absent.ensures ∙ view_absent _ _ (sym c.fits.ensures ∙ c.if-not-fits.true) _ c.if-which-lt4.false
+returns-else-which-lt4 c = c.absent-absent.ensures ∙ view_absent _ _ (sym c.fits.ensures ∙ c.if-not-fits.true) _ c.if-which-lt4.false
 
 pub overflow_add-r : goal.overflow_add-r
 overflow_add-r c = let f = fits_asked _ _ c.fits.ensures c.if-not-fits.false in omega arith
@@ -64,10 +64,10 @@ returns-in-Some c =
 
 pub returns-in-None : goal.returns-in-None
 unfolding view_told
-returns-in-None c = rw (c.in-4.is, sym c.in-None.ensures.given) c.new-absent.ensures
+returns-in-None c = rw (c.in-4.is, sym c.in-None.ensures.given) c.absent-absent.ensures
 
 pub returns-in_default : goal.returns-in_default
 unfolding view_told
 returns-in_default c =
     rw (ne_eqb c.args.which 0 (omega arith), ne_eqb c.args.which 1 (omega arith), ne_eqb c.args.which 2 (omega arith), ne_eqb c.args.which 3 (omega arith), ne_eqb c.args.which 4 (omega arith))
-    c.new-absent.ensures
+    c.absent-absent.ensures

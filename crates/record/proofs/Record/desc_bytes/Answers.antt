@@ -1,19 +1,8 @@
--- The description stands behind the id and a space in the head that is shown; without a space there is none.
+-- The description that there is, or the empty part at the window's front.
 -- Assumes nothing.
-use mathlib.Core.Path.{refl, sym, ◌∙◌}
-use borrow.Author.Tests.{lt-ltb, le-ltb}
-use Rattle.record.proofs.Views.{desc_shown, desc_told}
-use Rattle.record.specs.Views.{has_desc, desc_view}
+use mathlib.Core.Path.{refl}
+use Rattle.record.proofs.Views.{desc_or_front}
 use Rattle.record.proofs.Record.desc_bytes.Goals as goal
 
-pub returns-then-n-h : goal.returns-then-n-h
-unfolding desc_view has_desc
-returns-then-n-h c =
-    record {
-      given = sym (lt-ltb _ _ c.if-n-h.true) ∙ desc_told _ _ c.head-h.result _ c.head-h.ensures _ c.id_length-n.ensures;
-      shown = desc_shown _ _ _ _ c.head-h.ensures _ c.id_length-n.ensures c.if-n-h.true refl refl;
-    }
-
-pub returns-else-n-h : goal.returns-else-n-h
-unfolding desc_view has_desc
-returns-else-n-h c = record { given = sym (le-ltb _ _ c.if-n-h.false) ∙ desc_told _ _ c.head-h.result _ c.head-h.ensures _ c.id_length-n.ensures; shown = tt }
+pub returns : goal.returns
+returns c = desc_or_front _ _ c.desc.ensures.given c.desc.ensures.shown refl refl c.unwrap_or.ensures
